@@ -13,10 +13,23 @@
  * Nothing here blocks, sleeps or starts a thread. No function may be called from a signal handler, or in a child that a
  * program with threads has forked.
  *
- * Every number that is given is tested: what will not do is answered by a status. Pointers are not, and cannot be: each must be
- * one to memory of its type, for its length. What a call writes may overlap nothing else that the call was given: neither what
- * it writes too nor what it only reads, which has a pointer to const (the shapes of sto_open, the call of sto_ask, the calls of
- * sto_run). What it only reads no other thread may write meanwhile.
+ * Every number that is given is tested: what will not do is answered by a status. Where several things are wrong, the status tells
+ * the first of them, in this order:
+ *
+ *   1. a handle that is to be filled holds something (STO_TAKEN);
+ *   2. a handle holds nothing (STO_EMPTY), or something else than is wanted (STO_OTHER_HANDLE);
+ *   3. sto_run has less room for replies than there are calls (STO_NO_ROOM);
+ *   4. the worker stands elsewhere: in a transaction (STO_IN_TRANSACTION), in none (STO_NO_TRANSACTION), at its end (STO_NO_TICKETS);
+ *   5. a call: no such object (STO_NO_OBJECT), which does not take it (STO_NO_CALL), or wants other numbers (STO_BAD_NUMBERS);
+ *   6. what comes of doing it: STO_ABORTED, STO_BUSY, STO_NO_WORKER, STO_WORKERS_OUT, STO_NO_MEMORY, or STO_NO_ROOM for the answer.
+ *
+ * sto_open looks at the shapes one by one, each for its kind (STO_BAD_KIND), its place in the order (STO_BAD_ORDER), its room
+ * (STO_BAD_SIZE) and the parts so far (STO_TOO_MANY), and then at the number of workers (STO_BAD_WORKERS). sto_run begins its
+ * transaction and asks its calls one by one, each as sto_ask does.
+ *
+ * Pointers are not tested, and cannot be: each must be one to memory of its type, for its length. What a call writes may overlap
+ * nothing else that the call was given: neither what it writes too nor what it only reads, which has a pointer to const (the shapes of
+ * sto_open, the call of sto_ask, the calls of sto_run). What it only reads no other thread may write meanwhile.
  */
 #ifndef STO_H
 #define STO_H
@@ -24,9 +37,23 @@
 #include <stddef.h>
 #include <stdint.h>
 
+#define STO_VERSION "0.1.0"
+#define STO_VERSION_NUMBER 100 /* of 1.2.3 it would be 10203 */
+
 #ifdef __cplusplus
 extern "C" {
 #endif
+
+/* The version that the program runs with: as STO_VERSION_NUMBER, and as STO_VERSION. */
+uint32_t sto_version(void);
+const char *sto_version_text(void);
+
+/* What the program stands on: "proved", the archive that the prover made, or "plain", the same sources without their contracts as
+ * rustc compiled them, of which nothing is proved. */
+const char *sto_build(void);
+
+/* The sum of the sources of which that was made, as `.ci/sources sto_c` prints it. */
+const char *sto_sources(void);
 
 /* What a function answers. */
 typedef enum sto_status {
@@ -40,9 +67,9 @@ typedef enum sto_status {
     STO_TAKEN = 3,
     /* The handle holds something else than is wanted: a store, a worker, or the rows of a store that was closed. */
     STO_OTHER_HANDLE = 4,
-    /* No object has this number. */
+    /* No object has this number. The transaction goes on. */
     STO_NO_OBJECT = 5,
-    /* The object does not take this call: its kind has no such operation, or a number of the call is not in range. The
+    /* The object does not take this call: its kind has no such operation, or the number that names a comparison names none. The
      * transaction goes on. */
     STO_NO_CALL = 6,
     /* The worker is in a transaction already. */
@@ -51,8 +78,9 @@ typedef enum sto_status {
     STO_NO_TRANSACTION = 8,
     /* The transaction met another one: it has ended, and nothing of it took effect. Begin again, after a yield or a pause. */
     STO_ABORTED = 9,
-    /* sto_run was aborted several times, and nothing took effect; or another thread is at the place where the worker is to be
-     * given back, or in the call that gives the last one back of a store that is to be closed. Yield or pause, and call again. */
+    /* sto_run was aborted eight times, and nothing took effect; or a thread has not returned yet from the sto_give_back by which the
+     * last worker came back to a store that is to be closed (sto_close). Yield or pause, and call again. No other function answers it:
+     * sto_give_back would where another thread were at the place of its worker, and each worker has a place of its own. */
     STO_BUSY = 10,
     /* The worker has begun 2^40 transactions, which is all that it may. One that fails for want of memory counts. */
     STO_NO_TICKETS = 11,
@@ -71,7 +99,10 @@ typedef enum sto_status {
     /* There is less room than is needed for what is answered. */
     STO_NO_ROOM = 18,
     /* Fewer workers rest in the store than it was opened for. */
-    STO_WORKERS_OUT = 19
+    STO_WORKERS_OUT = 19,
+    /* The object takes this operation, but with another number of numbers (sto_call.numbers): a box and a counter are got without
+     * a place, a key of a hash table with one. The transaction goes on. */
+    STO_BAD_NUMBERS = 20
 } sto_status;
 
 /* A store, a worker, or the rows of a store that was closed. */
@@ -102,30 +133,35 @@ typedef struct sto_shape {
     int64_t value;
 } sto_shape;
 
-/* The operations, each with the kinds that take it, and what it answers. */
+/* The operations, each with the kinds that take it, the numbers that it wants, and what it answers; and the time that it takes by the
+ * object's size, where that is not the same for any size: by the places of one bucket, by the leaves of a tree (its size), by the keys
+ * that are answered, or by all that the object has room for, of which twice as much takes up to four times as long. */
 typedef enum sto_operation {
-    STO_GET = 0,    /* box, counter: its value; array, hash, tree, vector at a: the value there, or absent */
+    STO_GET = 0,    /* box, counter: its value; array, hash, tree, vector at a: the value there, or absent. Hash: places; tree: leaves */
     STO_SET = 1,    /* box to a: done; array at a to b: done, or absent */
     STO_ADD = 2,    /* counter by a: done, or range; array at a by b: done, absent or range */
     STO_TEST = 3,   /* counter, vector: whether its value or length compares as a (sto_comparison) with b */
     STO_TAKE = 4,   /* counter: no where it is below a; else yes, and it falls by a, or range */
-    STO_PUT = 5,    /* hash, tree: a key a with the value b: done, or full */
-    STO_REMOVE = 6, /* hash, tree: whether the key a was there */
-    STO_HAS = 7,    /* hash: whether the key a is there */
-    STO_LEN = 8,    /* hash, tree, vector: how many keys or values */
-    STO_NEXT = 9,   /* tree: the least key that is at least a, or absent */
-    STO_COUNT = 10, /* tree: how many keys from a to b */
-    STO_SCAN = 11,  /* tree: the keys from a to b with their values: pairs, which sto_pairs copies */
+    STO_PUT = 5,    /* hash, tree: a key a with the value b: done, or full. Hash: places; tree: leaves */
+    STO_REMOVE = 6, /* hash, tree: whether the key a was there. Hash: places; tree: leaves */
+    STO_HAS = 7,    /* hash: whether the key a is there. Places */
+    STO_LEN = 8,    /* hash, tree, vector: how many keys or values. Hash: all */
+    STO_NEXT = 9,   /* tree: the least key that is at least a, or absent. Leaves */
+    STO_COUNT = 10, /* tree: how many keys from a to b. Leaves and keys; of most keys of the tree, all */
+    STO_SCAN = 11,  /* tree: the keys from a to b with their values: pairs, which sto_pairs copies. As STO_COUNT */
     STO_PUSH = 12,  /* vector: a comes last: done, or full */
     STO_POP = 13    /* vector: the last value, which goes, or absent */
 } sto_operation;
 
 typedef enum sto_comparison { STO_EQ = 0, STO_NE = 1, STO_LT = 2, STO_LE = 3, STO_GT = 4, STO_GE = 5 } sto_comparison;
 
-/* A call: an operation of an object, by the object's number (its place in the list of shapes, from 0) and up to two numbers. */
+/* A call: an operation of an object, by the object's number (its place in the list of shapes, from 0), and as many of the two numbers
+ * as the operation wants of the object: none, a, or a and b. What is not given counts for nothing. */
 typedef struct sto_call {
     uint32_t object;
     uint32_t operation;
+    uint32_t numbers; /* how many are given */
+    uint32_t unused;
     int64_t a;
     int64_t b;
 } sto_call;
@@ -162,56 +198,68 @@ typedef struct sto_row {
 } sto_row;
 
 /* Opens a store of these objects, for so many workers, which all rest in it, and puts it into a handle that holds nothing. Where
- * objects cannot be, the status is that of the first one. */
+ * objects cannot be, the status is that of the first one. It takes time and memory by what all objects have room for. */
 uint32_t sto_open(sto_handle *store, const sto_shape *shapes, size_t count, uint32_t workers);
 
-/* Takes a worker that rests in a store, and puts it into a handle that holds nothing: the two handles are different ones. */
+/* Takes a worker that rests in a store, and puts it into a handle that holds nothing: the two handles are different ones. Where none
+ * rests it looks for those that came back, which takes time by how many are out. */
 uint32_t sto_worker(sto_handle *store, sto_handle *worker);
 
 /* Gives a worker back to its store, and leaves the handle holding nothing. It can be taken again. One that is in a transaction is
- * refused (STO_IN_TRANSACTION), and stays in it. */
+ * refused (STO_IN_TRANSACTION), and stays in it. It takes the same time for any store. */
 uint32_t sto_give_back(sto_handle *worker);
 
 /* Closes a store in which all its workers rest: its handle then holds the rows of its objects, as the last commit left them.
  * Where not all were given back the store stays open (STO_WORKERS_OUT), and where a call that gave one back has not returned yet
- * (STO_BUSY). Where memory is wanting it stays open or, at the end, is lost: then the handle holds nothing. */
+ * (STO_BUSY). Where memory is wanting it stays open or, at the end, is lost: then the handle holds nothing. It takes time by
+ * what all objects have room for. */
 uint32_t sto_close(sto_handle *store);
 
 /* Copies the rows of a store that was closed, by object and key, and writes how many they are. Where there is less room it copies
- * none, and answers STO_NO_ROOM. */
+ * none, and answers STO_NO_ROOM. It takes time by the rows. */
 uint32_t sto_rows(sto_handle *closed, sto_row *rows, size_t room, size_t *count);
 
 /* Frees what a handle holds, and leaves it holding nothing. A transaction that a worker is in is given up. A worker that was
- * freed does not come back to its store, which can then not be closed. */
+ * freed does not come back to its store, which can then not be closed. Of the last handle of a store it takes time by what all objects
+ * have room for. */
 uint32_t sto_free(sto_handle *handle);
 
-/* Begins a transaction. */
+/* Begins a transaction. It takes the same time for any store. */
 uint32_t sto_begin(sto_handle *worker);
 
 /* Asks a call of the transaction that the worker is in, and writes what it answered. The answers so far are those of one state
- * of the objects, also where the transaction is aborted later. The call and the reply may not overlap. */
+ * of the objects, also where the transaction is aborted later. The call and the reply may not overlap. It takes time as sto_operation
+ * says; and where another transaction has changed something meanwhile, by all that this one has observed, once in each call. */
 uint32_t sto_ask(sto_handle *worker, const sto_call *call, sto_reply *reply);
 
 /* Copies the pairs of the last reply of the transaction that the worker is in, and writes how many they are. Where there is
  * less room it copies none, and answers STO_NO_ROOM. A last reply of another form has none, and so has a transaction without
- * calls. */
+ * calls. It takes time by the pairs. */
 uint32_t sto_pairs(sto_handle *worker, sto_pair *pairs, size_t room, size_t *count);
 
+/* Copies the next pairs of a tree: those of its keys from `from` on, in their order, as many as there is room for, and writes how many
+ * they are. Where it writes fewer than there is room for, the tree has no more; else the next piece begins behind the last key. It asks
+ * STO_NEXT and STO_GET in turn and takes their time; the transaction has read nothing else, and its last reply has no pairs. Without
+ * room it asks nothing, but is refused where STO_NEXT would be. Where the answer is not STO_OK, some pairs may have been written, and
+ * they count for nothing. (No operation finds the keys of a hash table: a program that is to walk them keeps them in a tree besides, or
+ * reads the rows of the closed store.) */
+uint32_t sto_walk(sto_handle *worker, uint32_t object, int64_t from, sto_pair *pairs, size_t room, size_t *count);
+
 /* Commits the transaction, and writes its place in the order: its ticket, or the number as of which it read where it wrote
- * nothing. Whatever becomes of it, the worker is in no transaction then. */
+ * nothing. Whatever becomes of it, the worker is in no transaction then. It takes time by what the transaction has observed and written. */
 uint32_t sto_commit(sto_handle *worker, uint64_t *place);
 
-/* Gives the transaction up: nothing of it takes effect. */
+/* Gives the transaction up: nothing of it takes effect. It takes the same time for any store. */
 uint32_t sto_cancel(sto_handle *worker);
 
 /* Runs a whole transaction of calls that do not depend on one another's replies, tries it a few times where it is aborted, and
  * writes the replies: there is to be room for as many as there are calls. Of pairs it writes only how many they are. Where a
  * call is not taken nothing takes effect. A worker that is in a transaction already stays in it: STO_IN_TRANSACTION. Where the
  * answer is not STO_OK, some replies may have been written, and they count for nothing. The calls, the replies and the place may
- * not overlap. */
+ * not overlap. It takes the time of its calls and its commit, for each try. */
 uint32_t sto_run(sto_handle *worker, const sto_call *calls, size_t count, sto_reply *replies, size_t room, uint64_t *place);
 
-/* How many more transactions a worker may begin. */
+/* How many more transactions a worker may begin. It takes the same time for any store. */
 uint32_t sto_tickets(sto_handle *worker, uint64_t *left);
 
 #ifdef __cplusplus
@@ -220,28 +268,28 @@ uint32_t sto_tickets(sto_handle *worker, uint64_t *left);
 
 /* A function for each operation, within a transaction. */
 
-static inline uint32_t sto_call_of(sto_handle *w, uint32_t object, uint32_t operation, int64_t a, int64_t b, sto_reply *reply)
+static inline uint32_t sto_call_of(sto_handle *w, uint32_t object, uint32_t operation, uint32_t numbers, int64_t a, int64_t b, sto_reply *reply)
 {
-    sto_call call = {object, operation, a, b};
+    sto_call call = {object, operation, numbers, 0, a, b};
     return sto_ask(w, &call, reply);
 }
 
-static inline uint32_t sto_get(sto_handle *w, uint32_t object, sto_reply *r) { return sto_call_of(w, object, STO_GET, 0, 0, r); }
-static inline uint32_t sto_get_at(sto_handle *w, uint32_t object, int64_t at, sto_reply *r) { return sto_call_of(w, object, STO_GET, at, 0, r); }
-static inline uint32_t sto_set(sto_handle *w, uint32_t object, int64_t v, sto_reply *r) { return sto_call_of(w, object, STO_SET, v, 0, r); }
-static inline uint32_t sto_set_at(sto_handle *w, uint32_t object, int64_t at, int64_t v, sto_reply *r) { return sto_call_of(w, object, STO_SET, at, v, r); }
-static inline uint32_t sto_add(sto_handle *w, uint32_t object, int64_t d, sto_reply *r) { return sto_call_of(w, object, STO_ADD, d, 0, r); }
-static inline uint32_t sto_add_at(sto_handle *w, uint32_t object, int64_t at, int64_t d, sto_reply *r) { return sto_call_of(w, object, STO_ADD, at, d, r); }
-static inline uint32_t sto_test(sto_handle *w, uint32_t object, sto_comparison how, int64_t k, sto_reply *r) { return sto_call_of(w, object, STO_TEST, how, k, r); }
-static inline uint32_t sto_take(sto_handle *w, uint32_t object, int64_t d, sto_reply *r) { return sto_call_of(w, object, STO_TAKE, d, 0, r); }
-static inline uint32_t sto_put(sto_handle *w, uint32_t object, int64_t k, int64_t v, sto_reply *r) { return sto_call_of(w, object, STO_PUT, k, v, r); }
-static inline uint32_t sto_remove(sto_handle *w, uint32_t object, int64_t k, sto_reply *r) { return sto_call_of(w, object, STO_REMOVE, k, 0, r); }
-static inline uint32_t sto_has(sto_handle *w, uint32_t object, int64_t k, sto_reply *r) { return sto_call_of(w, object, STO_HAS, k, 0, r); }
-static inline uint32_t sto_len(sto_handle *w, uint32_t object, sto_reply *r) { return sto_call_of(w, object, STO_LEN, 0, 0, r); }
-static inline uint32_t sto_next(sto_handle *w, uint32_t object, int64_t k, sto_reply *r) { return sto_call_of(w, object, STO_NEXT, k, 0, r); }
-static inline uint32_t sto_count(sto_handle *w, uint32_t object, int64_t from, int64_t to, sto_reply *r) { return sto_call_of(w, object, STO_COUNT, from, to, r); }
-static inline uint32_t sto_scan(sto_handle *w, uint32_t object, int64_t from, int64_t to, sto_reply *r) { return sto_call_of(w, object, STO_SCAN, from, to, r); }
-static inline uint32_t sto_push(sto_handle *w, uint32_t object, int64_t v, sto_reply *r) { return sto_call_of(w, object, STO_PUSH, v, 0, r); }
-static inline uint32_t sto_pop(sto_handle *w, uint32_t object, sto_reply *r) { return sto_call_of(w, object, STO_POP, 0, 0, r); }
+static inline uint32_t sto_get(sto_handle *w, uint32_t object, sto_reply *r) { return sto_call_of(w, object, STO_GET, 0, 0, 0, r); }
+static inline uint32_t sto_get_at(sto_handle *w, uint32_t object, int64_t at, sto_reply *r) { return sto_call_of(w, object, STO_GET, 1, at, 0, r); }
+static inline uint32_t sto_set(sto_handle *w, uint32_t object, int64_t v, sto_reply *r) { return sto_call_of(w, object, STO_SET, 1, v, 0, r); }
+static inline uint32_t sto_set_at(sto_handle *w, uint32_t object, int64_t at, int64_t v, sto_reply *r) { return sto_call_of(w, object, STO_SET, 2, at, v, r); }
+static inline uint32_t sto_add(sto_handle *w, uint32_t object, int64_t d, sto_reply *r) { return sto_call_of(w, object, STO_ADD, 1, d, 0, r); }
+static inline uint32_t sto_add_at(sto_handle *w, uint32_t object, int64_t at, int64_t d, sto_reply *r) { return sto_call_of(w, object, STO_ADD, 2, at, d, r); }
+static inline uint32_t sto_test(sto_handle *w, uint32_t object, sto_comparison how, int64_t k, sto_reply *r) { return sto_call_of(w, object, STO_TEST, 2, how, k, r); }
+static inline uint32_t sto_take(sto_handle *w, uint32_t object, int64_t d, sto_reply *r) { return sto_call_of(w, object, STO_TAKE, 1, d, 0, r); }
+static inline uint32_t sto_put(sto_handle *w, uint32_t object, int64_t k, int64_t v, sto_reply *r) { return sto_call_of(w, object, STO_PUT, 2, k, v, r); }
+static inline uint32_t sto_remove(sto_handle *w, uint32_t object, int64_t k, sto_reply *r) { return sto_call_of(w, object, STO_REMOVE, 1, k, 0, r); }
+static inline uint32_t sto_has(sto_handle *w, uint32_t object, int64_t k, sto_reply *r) { return sto_call_of(w, object, STO_HAS, 1, k, 0, r); }
+static inline uint32_t sto_len(sto_handle *w, uint32_t object, sto_reply *r) { return sto_call_of(w, object, STO_LEN, 0, 0, 0, r); }
+static inline uint32_t sto_next(sto_handle *w, uint32_t object, int64_t k, sto_reply *r) { return sto_call_of(w, object, STO_NEXT, 1, k, 0, r); }
+static inline uint32_t sto_count(sto_handle *w, uint32_t object, int64_t from, int64_t to, sto_reply *r) { return sto_call_of(w, object, STO_COUNT, 2, from, to, r); }
+static inline uint32_t sto_scan(sto_handle *w, uint32_t object, int64_t from, int64_t to, sto_reply *r) { return sto_call_of(w, object, STO_SCAN, 2, from, to, r); }
+static inline uint32_t sto_push(sto_handle *w, uint32_t object, int64_t v, sto_reply *r) { return sto_call_of(w, object, STO_PUSH, 1, v, 0, r); }
+static inline uint32_t sto_pop(sto_handle *w, uint32_t object, sto_reply *r) { return sto_call_of(w, object, STO_POP, 0, 0, 0, r); }
 
 #endif

@@ -75,7 +75,7 @@ const char *sto_status_text(uint32_t status)
         "the transaction met another one", "busy: each try met another transaction", "the worker has begun 2^40 transactions",
         "no worker rests in the store", "a store has from 1 to 65536 workers", "no such kind of object", "objects out of order",
         "an object has no room, or is too large", "the objects have 2^32 parts or more", "too little room for the answer",
-        "workers are out"};
+        "workers are out", "the operation wants another number of numbers of this object"};
     static const char *const of_door[] = {"the transaction gave itself up", "the transaction's time was over",
         "a transaction was begun within a transaction", "an object is full", "a sum is no number of 64 bits",
         "an array has no such place", "an object of another store, or one that was not declared before the store was opened", "the store is not open", "the store is open already",
@@ -595,12 +595,12 @@ static bool may_ask(sto_tx *tx, uint32_t kind, uint32_t store, uint32_t index)
 }
 
 /* The reply; `nothing` where the transaction has stopped. */
-static inline sto_reply ask(sto_tx *tx, uint32_t kind, uint32_t store, uint32_t index, uint32_t operation, int64_t a, int64_t b)
+static inline sto_reply ask(sto_tx *tx, uint32_t kind, uint32_t store, uint32_t index, uint32_t operation, uint32_t numbers, int64_t a, int64_t b)
 {
     enum { READS = 1 << STO_GET | 1 << STO_TEST | 1 << STO_HAS | 1 << STO_LEN | 1 << STO_NEXT | 1 << STO_COUNT | 1 << STO_SCAN };
     if (!may_ask(tx, kind, store, index)) return nothing;
     if (!(READS >> operation & 1)) tx->wrote = true;
-    sto_call call = {tx->store->bases[kind] + index, operation, a, b};
+    sto_call call = {.object = tx->store->bases[kind] + index, .operation = operation, .numbers = numbers, .a = a, .b = b};
     sto_reply reply = nothing;
     uint32_t status = sto_ask(tx->worker, &call, &reply);
     if (status) {
@@ -611,7 +611,10 @@ static inline sto_reply ask(sto_tx *tx, uint32_t kind, uint32_t store, uint32_t 
     return reply;
 }
 
-#define ASK(kind, object, operation, a, b) ask(tx, kind, (object).store, (object).index, operation, a, b)
+/* with no number, with one, with two */
+#define ASK0(kind, object, operation) ask(tx, kind, (object).store, (object).index, operation, 0, 0, 0)
+#define ASK1(kind, object, operation, a) ask(tx, kind, (object).store, (object).index, operation, 1, a, 0)
+#define ASK2(kind, object, operation, a, b) ask(tx, kind, (object).store, (object).index, operation, 2, a, b)
 
 static bool has_value(sto_reply reply, int64_t *value)
 {
@@ -631,36 +634,36 @@ static void had_room(sto_tx *tx, bool had)
     if (!had) stop(tx, STO_IS_FULL);
 }
 
-int64_t sto_box_get(sto_tx *tx, sto_box o) { return ASK(STO_BOX, o, STO_GET, 0, 0).value; }
-void sto_box_set(sto_tx *tx, sto_box o, int64_t value) { ASK(STO_BOX, o, STO_SET, value, 0); }
+int64_t sto_box_get(sto_tx *tx, sto_box o) { return ASK0(STO_BOX, o, STO_GET).value; }
+void sto_box_set(sto_tx *tx, sto_box o, int64_t value) { ASK1(STO_BOX, o, STO_SET, value); }
 
-int64_t sto_counter_get(sto_tx *tx, sto_counter o) { return ASK(STO_COUNTER, o, STO_GET, 0, 0).value; }
-void sto_counter_add(sto_tx *tx, sto_counter o, int64_t delta) { ASK(STO_COUNTER, o, STO_ADD, delta, 0); }
-bool sto_counter_take(sto_tx *tx, sto_counter o, int64_t amount) { return ASK(STO_COUNTER, o, STO_TAKE, amount, 0).value; }
-bool sto_counter_at_least(sto_tx *tx, sto_counter o, int64_t amount) { return ASK(STO_COUNTER, o, STO_TEST, STO_GE, amount).value; }
+int64_t sto_counter_get(sto_tx *tx, sto_counter o) { return ASK0(STO_COUNTER, o, STO_GET).value; }
+void sto_counter_add(sto_tx *tx, sto_counter o, int64_t delta) { ASK1(STO_COUNTER, o, STO_ADD, delta); }
+bool sto_counter_take(sto_tx *tx, sto_counter o, int64_t amount) { return ASK1(STO_COUNTER, o, STO_TAKE, amount).value; }
+bool sto_counter_at_least(sto_tx *tx, sto_counter o, int64_t amount) { return ASK2(STO_COUNTER, o, STO_TEST, STO_GE, amount).value; }
 
-int64_t sto_array_get(sto_tx *tx, sto_array o, int64_t at) { return at_place(tx, ASK(STO_ARRAY, o, STO_GET, at, 0)); }
-void sto_array_set(sto_tx *tx, sto_array o, int64_t at, int64_t value) { at_place(tx, ASK(STO_ARRAY, o, STO_SET, at, value)); }
-void sto_array_add(sto_tx *tx, sto_array o, int64_t at, int64_t delta) { at_place(tx, ASK(STO_ARRAY, o, STO_ADD, at, delta)); }
+int64_t sto_array_get(sto_tx *tx, sto_array o, int64_t at) { return at_place(tx, ASK1(STO_ARRAY, o, STO_GET, at)); }
+void sto_array_set(sto_tx *tx, sto_array o, int64_t at, int64_t value) { at_place(tx, ASK2(STO_ARRAY, o, STO_SET, at, value)); }
+void sto_array_add(sto_tx *tx, sto_array o, int64_t at, int64_t delta) { at_place(tx, ASK2(STO_ARRAY, o, STO_ADD, at, delta)); }
 
-bool sto_table_get(sto_tx *tx, sto_table o, int64_t key, int64_t *value) { return has_value(ASK(STO_HASH, o, STO_GET, mixed(key), 0), value); }
-bool sto_table_try_put(sto_tx *tx, sto_table o, int64_t key, int64_t value) { return ASK(STO_HASH, o, STO_PUT, mixed(key), value).answer == STO_DONE; }
+bool sto_table_get(sto_tx *tx, sto_table o, int64_t key, int64_t *value) { return has_value(ASK1(STO_HASH, o, STO_GET, mixed(key)), value); }
+bool sto_table_try_put(sto_tx *tx, sto_table o, int64_t key, int64_t value) { return ASK2(STO_HASH, o, STO_PUT, mixed(key), value).answer == STO_DONE; }
 void sto_table_put(sto_tx *tx, sto_table o, int64_t key, int64_t value) { had_room(tx, sto_table_try_put(tx, o, key, value)); }
-bool sto_table_remove(sto_tx *tx, sto_table o, int64_t key) { return ASK(STO_HASH, o, STO_REMOVE, mixed(key), 0).value; }
-bool sto_table_has(sto_tx *tx, sto_table o, int64_t key) { return ASK(STO_HASH, o, STO_HAS, mixed(key), 0).value; }
-int64_t sto_table_len(sto_tx *tx, sto_table o) { return ASK(STO_HASH, o, STO_LEN, 0, 0).value; }
+bool sto_table_remove(sto_tx *tx, sto_table o, int64_t key) { return ASK1(STO_HASH, o, STO_REMOVE, mixed(key)).value; }
+bool sto_table_has(sto_tx *tx, sto_table o, int64_t key) { return ASK1(STO_HASH, o, STO_HAS, mixed(key)).value; }
+int64_t sto_table_len(sto_tx *tx, sto_table o) { return ASK0(STO_HASH, o, STO_LEN).value; }
 
-bool sto_tree_get(sto_tx *tx, sto_tree o, int64_t key, int64_t *value) { return has_value(ASK(STO_TREE, o, STO_GET, key, 0), value); }
-bool sto_tree_try_put(sto_tx *tx, sto_tree o, int64_t key, int64_t value) { return ASK(STO_TREE, o, STO_PUT, key, value).answer == STO_DONE; }
+bool sto_tree_get(sto_tx *tx, sto_tree o, int64_t key, int64_t *value) { return has_value(ASK1(STO_TREE, o, STO_GET, key), value); }
+bool sto_tree_try_put(sto_tx *tx, sto_tree o, int64_t key, int64_t value) { return ASK2(STO_TREE, o, STO_PUT, key, value).answer == STO_DONE; }
 void sto_tree_put(sto_tx *tx, sto_tree o, int64_t key, int64_t value) { had_room(tx, sto_tree_try_put(tx, o, key, value)); }
-bool sto_tree_remove(sto_tx *tx, sto_tree o, int64_t key) { return ASK(STO_TREE, o, STO_REMOVE, key, 0).value; }
-bool sto_tree_next(sto_tx *tx, sto_tree o, int64_t from, int64_t *key) { return has_value(ASK(STO_TREE, o, STO_NEXT, from, 0), key); }
-int64_t sto_tree_count(sto_tx *tx, sto_tree o, int64_t first, int64_t last) { return ASK(STO_TREE, o, STO_COUNT, first, last).value; }
-int64_t sto_tree_len(sto_tx *tx, sto_tree o) { return ASK(STO_TREE, o, STO_LEN, 0, 0).value; }
+bool sto_tree_remove(sto_tx *tx, sto_tree o, int64_t key) { return ASK1(STO_TREE, o, STO_REMOVE, key).value; }
+bool sto_tree_next(sto_tx *tx, sto_tree o, int64_t from, int64_t *key) { return has_value(ASK1(STO_TREE, o, STO_NEXT, from), key); }
+int64_t sto_tree_count(sto_tx *tx, sto_tree o, int64_t first, int64_t last) { return ASK2(STO_TREE, o, STO_COUNT, first, last).value; }
+int64_t sto_tree_len(sto_tx *tx, sto_tree o) { return ASK0(STO_TREE, o, STO_LEN).value; }
 
 size_t sto_tree_scan(sto_tx *tx, sto_tree o, int64_t first, int64_t last, sto_pair *pairs, size_t room)
 {
-    sto_reply reply = ASK(STO_TREE, o, STO_SCAN, first, last);
+    sto_reply reply = ASK2(STO_TREE, o, STO_SCAN, first, last);
     size_t count = (size_t)reply.value;
     if (reply.answer != STO_PAIRS || count > room || count == 0) return count;
     uint32_t status = sto_pairs(tx->worker, pairs, room, &count);
@@ -668,11 +671,20 @@ size_t sto_tree_scan(sto_tx *tx, sto_tree o, int64_t first, int64_t last, sto_pa
     return status ? 0 : count;
 }
 
-bool sto_vector_get(sto_tx *tx, sto_vector o, int64_t at, int64_t *value) { return has_value(ASK(STO_VECTOR, o, STO_GET, at, 0), value); }
-bool sto_vector_try_push(sto_tx *tx, sto_vector o, int64_t value) { return ASK(STO_VECTOR, o, STO_PUSH, value, 0).answer == STO_DONE; }
+size_t sto_tree_walk(sto_tx *tx, sto_tree o, int64_t from, sto_pair *pairs, size_t room)
+{
+    size_t count = 0;
+    if (!may_ask(tx, STO_TREE, o.store, o.index)) return 0;
+    uint32_t status = sto_walk(tx->worker, tx->store->bases[STO_TREE] + o.index, from, pairs, room, &count);
+    if (status) stop(tx, status);
+    return count;
+}
+
+bool sto_vector_get(sto_tx *tx, sto_vector o, int64_t at, int64_t *value) { return has_value(ASK1(STO_VECTOR, o, STO_GET, at), value); }
+bool sto_vector_try_push(sto_tx *tx, sto_vector o, int64_t value) { return ASK1(STO_VECTOR, o, STO_PUSH, value).answer == STO_DONE; }
 void sto_vector_push(sto_tx *tx, sto_vector o, int64_t value) { had_room(tx, sto_vector_try_push(tx, o, value)); }
-bool sto_vector_pop(sto_tx *tx, sto_vector o, int64_t *value) { return has_value(ASK(STO_VECTOR, o, STO_POP, 0, 0), value); }
-int64_t sto_vector_len(sto_tx *tx, sto_vector o) { return ASK(STO_VECTOR, o, STO_LEN, 0, 0).value; }
+bool sto_vector_pop(sto_tx *tx, sto_vector o, int64_t *value) { return has_value(ASK0(STO_VECTOR, o, STO_POP), value); }
+int64_t sto_vector_len(sto_tx *tx, sto_vector o) { return ASK0(STO_VECTOR, o, STO_LEN).value; }
 
 void sto_stats(sto_store *s, sto_counts *counts, size_t size)
 {

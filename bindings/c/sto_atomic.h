@@ -34,22 +34,9 @@
 
 #include "sto.h"
 
-#define STO_VERSION "0.1.0"
-#define STO_VERSION_NUMBER 100 /* of 1.2.3 it would be 10203 */
-
 #ifdef __cplusplus
 extern "C" {
 #endif
-
-/* The version that the program runs with, as STO_VERSION_NUMBER. */
-uint32_t sto_version(void);
-
-/* What the program stands on: "proved", the archive that the prover made, or "plain", the same sources without their contracts as
- * rustc compiled them, of which nothing is proved. */
-const char *sto_build(void);
-
-/* The sum of the sources of which that was made, as `.ci/sources sto_c` prints it. */
-const char *sto_sources(void);
 
 /* What the functions below answer besides the statuses of sto.h. */
 enum {
@@ -153,6 +140,10 @@ int64_t sto_tree_count(sto_tx *, sto_tree, int64_t first, int64_t last);
 int64_t sto_tree_len(sto_tx *, sto_tree);
 /* How many pairs there are from the first to the last key, both of them with it. They are copied where there is room for all. */
 size_t sto_tree_scan(sto_tx *, sto_tree, int64_t first, int64_t last, sto_pair *pairs, size_t room);
+
+/* The first pairs from a key on, as many as there is room for: how many they are. Where they are fewer, the tree has no more. The next
+ * piece begins at the last key + 1. The transaction has read no key beyond them. */
+size_t sto_tree_walk(sto_tx *, sto_tree, int64_t from, sto_pair *pairs, size_t room);
 
 bool sto_vector_get(sto_tx *, sto_vector, int64_t at, int64_t *value);
 void sto_vector_push(sto_tx *, sto_vector, int64_t value);            /* stops by STO_IS_FULL */

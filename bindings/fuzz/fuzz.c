@@ -81,12 +81,41 @@ static int64_t number(player *p)
 
 static sto_call some_call(player *p)
 {
-    sto_call call = {below(p, OBJECTS), below(p, STO_POP + 1), number(p), number(p)};
+    sto_call call = {.object = below(p, OBJECTS), .operation = below(p, STO_POP + 1), .a = number(p), .b = number(p)};
     for (int tries = 0; tries < 40 && !model_takes(call); tries++) call.operation = below(p, STO_POP + 1);
     if (call.operation == STO_TEST) call.a = below(p, 7);
+    call.numbers = below(p, 64) ? model_wants(call) : below(p, 4);
     if (!below(p, 64)) call.object = below(p, 2) ? OBJECTS : UINT32_MAX;
     if (!below(p, 64)) call.operation = below(p, 2) ? STO_POP + 1 : 256 + below(p, 14);
     return call;
+}
+
+/* The transaction has ended by this status: it does not go on. */
+static bool has_ended(player *p, uint32_t status)
+{
+    NEED(status == STO_ABORTED || (status == STO_NO_MEMORY && is_refusing));
+    NEED(sto_cancel(&p->worker) == STO_NO_TRANSACTION);
+    p->aborted += status == STO_ABORTED;
+    p->refused += status == STO_NO_MEMORY;
+    return false;
+}
+
+/* Walks a piece of a tree. Whether the transaction goes on. */
+static bool walk(player *p, committed *c)
+{
+    sto_call call = {.object = FIRST_TREE + below(p, TREES), .operation = WALK, .a = number(p), .b = below(p, 6)};
+    answered got;
+    size_t count = KEYS_MOST;
+    memset(&got, 0, sizeof got);
+    uint32_t status = sto_walk(&p->worker, call.object, call.a, got.pairs, (size_t)call.b, &count);
+    p->calls++;
+    if (status) return has_ended(p, status);
+    NEED(count <= (size_t)call.b);
+    got.reply = (sto_reply){STO_PAIRS, 0, (int64_t)count};
+    got.count = (uint32_t)count;
+    c->calls[c->count] = call;
+    c->answers[c->count++] = got;
+    return true;
 }
 
 /* Asks a call that may be none. Whether the transaction goes on. */
@@ -104,13 +133,10 @@ static bool ask(player *p, committed *c)
     if (!model_takes(call)) NEED(status == STO_NO_CALL);
     if (status == STO_NO_CALL) NEED(!model_takes(call));
     if (status == STO_NO_CALL) return true;
-    if (status) {
-        NEED(status == STO_ABORTED || (status == STO_NO_MEMORY && is_refusing));
-        NEED(sto_cancel(&p->worker) == STO_NO_TRANSACTION);
-        p->aborted += status == STO_ABORTED;
-        p->refused += status == STO_NO_MEMORY;
-        return false;
-    }
+    if (call.numbers != model_wants(call)) NEED(status == STO_BAD_NUMBERS);
+    if (status == STO_BAD_NUMBERS) NEED(call.numbers != model_wants(call));
+    if (status == STO_BAD_NUMBERS) return true;
+    if (status) return has_ended(p, status);
     size_t count = 0;
     if (got.reply.answer == STO_PAIRS) {
         if (got.reply.value > 1) NEED(sto_pairs(&p->worker, got.pairs, 1, &count) == STO_NO_ROOM && count == (size_t)got.reply.value);
@@ -135,7 +161,7 @@ static void transact(player *p)
         return;
     }
     bool goes_on = true;
-    for (uint32_t i = 0; i < many && goes_on; i++) goes_on = ask(p, c);
+    for (uint32_t i = 0; i < many && goes_on; i++) goes_on = below(p, 16) ? ask(p, c) : walk(p, c);
     if (!goes_on) return;
     if (!below(p, 12)) {
         NEED(sto_cancel(&p->worker) == STO_OK);
@@ -156,7 +182,8 @@ static void run_whole(player *p)
     memset(c, 0, sizeof *c);
     while (c->count < 1 + below(p, CALLS_MOST)) {
         sto_call call = some_call(p);
-        if (call.object < OBJECTS && model_takes(call) && call.operation != STO_SCAN) c->calls[c->count++] = call;
+        bool is_lawful = call.object < OBJECTS && model_takes(call) && call.numbers == model_wants(call);
+        if (is_lawful && call.operation != STO_SCAN) c->calls[c->count++] = call;
     }
     uint32_t status = sto_run(&p->worker, c->calls, c->count, replies, CALLS_MOST, &c->place);
     NEED(status == STO_OK || status == STO_BUSY || (status == STO_NO_MEMORY && is_refusing));

@@ -45,6 +45,23 @@ bool model_takes(sto_call call)
     return call.operation != STO_TEST || (call.a >= STO_EQ && call.a <= STO_GE);
 }
 
+uint32_t model_wants(sto_call call)
+{
+    bool has_places = shapes[call.object].kind != STO_BOX && shapes[call.object].kind != STO_COUNTER;
+    switch (call.operation) {
+    case STO_GET: return has_places;
+    case STO_SET:
+    case STO_ADD: return 1 + has_places;
+    case STO_LEN:
+    case STO_POP: return 0;
+    case STO_TEST:
+    case STO_PUT:
+    case STO_COUNT:
+    case STO_SCAN: return 2;
+    default: return 1;
+    }
+}
+
 bool model_wrote(sto_call call, sto_reply reply)
 {
     return reply.answer == STO_DONE || (reply.answer == STO_FLAG && reply.value && (call.operation == STO_TAKE || call.operation == STO_REMOVE)) ||
@@ -141,6 +158,13 @@ static answered scan(const content *c, int64_t first, int64_t last)
     return all;
 }
 
+static answered walk(const content *c, int64_t from, int64_t room)
+{
+    answered all = scan(c, from, INT64_MAX);
+    if (all.count > room) all.reply.value = all.count = (uint32_t)room;
+    return all;
+}
+
 answered model_ask(model *m, sto_call call)
 {
     content *c = &m->objects[call.object];
@@ -160,6 +184,7 @@ answered model_ask(model *m, sto_call call)
     case STO_NEXT: return (answered){.reply = next < c->count ? value(c->pairs[next].key) : absent};
     case STO_COUNT: return (answered){.reply = value(scan(c, a, b).count)};
     case STO_SCAN: return scan(c, a, b);
+    case WALK: return walk(c, a, b);
     case STO_PUSH: return (answered){.reply = c->count < s->size ? put(c, c->count, a, false) : full};
     default: return (answered){.reply = pop(c)};
     }

@@ -7,7 +7,10 @@
 
 #include "sto.h"
 
-enum { OBJECTS = 9, KEYS_MOST = 32 };
+enum { OBJECTS = 9, FIRST_TREE = 6, TREES = 2, KEYS_MOST = 32 };
+
+/* The operation by which the model notes a walk of a tree from a, with room for b pairs. */
+enum { WALK = 1000 };
 
 /* The objects of each run, in the order of sto.h. */
 extern const sto_shape shapes[OBJECTS];
@@ -33,6 +36,9 @@ model model_new(void);
 
 /* Whether an object takes a call. */
 bool model_takes(sto_call call);
+
+/* How many numbers its operation wants of its object, which takes it. */
+uint32_t model_wants(sto_call call);
 
 /* Makes a call that is taken. */
 answered model_ask(model *, sto_call call);

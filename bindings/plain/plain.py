@@ -216,7 +216,7 @@ def sum_of_sources():
 
 
 def version():
-    return re.search(r'(?m)^#define STO_VERSION "(.*)"$', read(os.path.join(REPOSITORY, "bindings", "c", "sto_atomic.h")))[1]
+    return re.search(r'(?m)^#define STO_VERSION "(.*)"$', read(os.path.join(REPOSITORY, "include", "sto.h")))[1]
 
 
 def write_module(out):

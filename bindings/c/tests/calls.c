@@ -12,6 +12,47 @@ static void expect(uint32_t got, uint32_t want, const char *what)
     }
 }
 
+/* Of several things that are wrong the first is told. */
+static void see_order(sto_handle *worker)
+{
+    sto_reply reply = {0, 0, 0};
+    expect(sto_call_of(worker, 9, 14, 3, 0, 0, &reply), STO_NO_OBJECT, "no object, no operation, three numbers");
+    expect(sto_call_of(worker, 0, 14, 3, 0, 0, &reply), STO_NO_CALL, "no operation, three numbers");
+    expect(sto_call_of(worker, 2, STO_SET, 1, 0, 0, &reply), STO_NO_CALL, "set of a hash table, one number");
+    expect(sto_call_of(worker, 1, STO_TEST, 1, 9, 0, &reply), STO_NO_CALL, "comparison 9, one number");
+}
+
+/* A tree with the keys 1 and 2, piece by piece. */
+static void see_walk(sto_handle *worker)
+{
+    sto_pair pairs[2], last = {INT64_MAX, 7};
+    sto_reply reply;
+    size_t count = 9;
+    expect(sto_walk(worker, 2, 0, pairs, 2, &count), STO_NO_CALL, "walk of a hash table");
+    expect(sto_walk(worker, 2, 0, pairs, 0, &count), STO_NO_CALL, "walk of a hash table, without room");
+    expect(sto_walk(worker, 9, 0, pairs, 2, &count), STO_NO_OBJECT, "walk of no object");
+    need(sto_walk(worker, 3, 1, pairs, 0, &count), "sto_walk without room");
+    if (count != 0) wrong++;
+    need(sto_walk(worker, 3, INT64_MIN, pairs, 1, &count), "sto_walk");
+    if (count != 1 || pairs[0].key != 1 || pairs[0].value != 10) wrong++;
+    need(sto_walk(worker, 3, 2, pairs, 2, &count), "sto_walk of the rest");
+    if (count != 1 || pairs[0].key != 2 || pairs[0].value != 20) wrong++;
+    need(sto_put(worker, 3, last.key, last.value, &reply), "sto_put of the last key of all");
+    need(sto_walk(worker, 3, 3, pairs, 2, &count), "sto_walk to the last key of all");
+    if (count != 1 || pairs[0].key != last.key || pairs[0].value != last.value) wrong++;
+    need(sto_remove(worker, 3, last.key, &reply), "sto_remove");
+}
+
+/* The same of shapes: each is looked at whole, and then the number of workers. */
+static void see_order_of_shapes(void)
+{
+    sto_handle store = STO_NONE;
+    sto_shape none[] = {{.kind = STO_TREE, .size = 1}, {.kind = STO_HASH, .size = 0}, {.kind = 6}};
+    expect(sto_open(&store, none, 3, 0), STO_BAD_ORDER, "a hash table without room behind a tree");
+    expect(sto_open(&store, none + 1, 2, 0), STO_BAD_SIZE, "a hash table without room before no kind");
+    expect(sto_open(&store, none + 2, 1, 0), STO_BAD_KIND, "no kind, no workers");
+}
+
 int main(void)
 {
     sto_shape shapes[] = {{.kind = STO_BOX, .value = 5}, {.kind = STO_COUNTER}, {.kind = STO_HASH, .size = 1, .places = 1}, {.kind = STO_TREE, .size = 4}, {.kind = STO_VECTOR, .size = 2}};
@@ -44,11 +85,14 @@ int main(void)
     expect(sto_open(&store, shapes, 5, 0), STO_BAD_WORKERS, "no workers");
     expect(sto_open(&store, shapes, 5, 65537), STO_BAD_WORKERS, "too many workers");
 
+    see_order_of_shapes();
+
     need(sto_open(&store, shapes, 5, 1), "sto_open");
-    expect(sto_open(&store, shapes, 5, 1), STO_TAKEN, "open into a store");
+    expect(sto_open(&store, bad, 1, 0), STO_TAKEN, "open into a store");
     expect(sto_begin(&store), STO_OTHER_HANDLE, "begin of a store");
     need(sto_worker(&store, &worker), "sto_worker");
     expect(sto_worker(&store, &worker), STO_TAKEN, "worker into a worker");
+    expect(sto_worker(&other, &worker), STO_TAKEN, "worker of nothing into a worker");
     expect(sto_worker(&store, &other), STO_NO_WORKER, "a second worker of one");
     expect(sto_worker(&worker, &other), STO_OTHER_HANDLE, "worker of a worker");
     expect(sto_give_back(&store), STO_OTHER_HANDLE, "give back of a store");
@@ -61,9 +105,12 @@ int main(void)
 
     /* calls outside a transaction */
     expect(sto_get(&worker, 0, &reply), STO_NO_TRANSACTION, "get outside");
+    expect(sto_call_of(&worker, 9, 14, 3, 0, 0, &reply), STO_NO_TRANSACTION, "outside, of no object, by no operation");
     expect(sto_commit(&worker, &number), STO_NO_TRANSACTION, "commit outside");
     expect(sto_cancel(&worker), STO_NO_TRANSACTION, "cancel outside");
     expect(sto_pairs(&worker, pairs, 4, &count), STO_NO_TRANSACTION, "pairs outside");
+    expect(sto_walk(&worker, 3, 0, pairs, 4, &count), STO_NO_TRANSACTION, "walk outside");
+    expect(sto_walk(&worker, 3, 0, pairs, 0, &count), STO_NO_TRANSACTION, "walk outside, without room");
 
     /* within one: the transaction goes on */
     need(sto_begin(&worker), "sto_begin");
@@ -81,13 +128,22 @@ int main(void)
     expect(sto_push(&worker, 0, 1, &reply), STO_NO_CALL, "push of a box");
     expect(sto_set(&worker, 1, 1, &reply), STO_NO_CALL, "set of a counter");
     expect(sto_test(&worker, 1, (sto_comparison)9, 1, &reply), STO_NO_CALL, "comparison 9");
-    expect(sto_call_of(&worker, 0, 14, 0, 0, &reply), STO_NO_CALL, "operation 14");
-    expect(sto_call_of(&worker, 0, 256, 0, 0, &reply), STO_NO_CALL, "operation 256");
+    expect(sto_call_of(&worker, 0, 14, 0, 0, 0, &reply), STO_NO_CALL, "operation 14");
+    expect(sto_call_of(&worker, 0, 256, 0, 0, 0, &reply), STO_NO_CALL, "operation 256");
+    expect(sto_get(&worker, 2, &reply), STO_BAD_NUMBERS, "get of a hash table without a key");
+    expect(sto_get(&worker, 4, &reply), STO_BAD_NUMBERS, "get of a vector without a place");
+    expect(sto_get_at(&worker, 0, 0, &reply), STO_BAD_NUMBERS, "get of a box at a place");
+    expect(sto_set_at(&worker, 0, 0, 1, &reply), STO_BAD_NUMBERS, "set of a box at a place");
+    expect(sto_add_at(&worker, 1, 0, 1, &reply), STO_BAD_NUMBERS, "add to a counter at a place");
+    expect(sto_call_of(&worker, 3, STO_PUT, 1, 1, 0, &reply), STO_BAD_NUMBERS, "put of a key without a value");
+    expect(sto_call_of(&worker, 3, STO_LEN, 3, 0, 0, &reply), STO_BAD_NUMBERS, "len with three numbers");
+    see_order(&worker);
     need(sto_put(&worker, 3, 1, 10, &reply), "sto_put");
     need(sto_put(&worker, 3, 2, 20, &reply), "sto_put");
     need(sto_scan(&worker, 3, 0, 9, &reply), "sto_scan");
     expect(sto_pairs(&worker, pairs, 1, &count), STO_NO_ROOM, "room for one pair of two");
     need(sto_pairs(&worker, pairs, 4, &count), "sto_pairs");
+    see_walk(&worker);
     need(sto_commit(&worker, &number), "sto_commit");
     if (count != 2 || pairs[1].value != 20) {
         wrong++;
@@ -95,11 +151,13 @@ int main(void)
     }
 
     /* whole transactions: where a call is not taken nothing takes effect */
-    sto_call list[] = {{.object = 0, .operation = STO_SET, .a = 99}, {.object = 9, .operation = STO_GET}};
+    sto_call list[] = {{.object = 0, .operation = STO_SET, .numbers = 1, .a = 99}, {.object = 9, .operation = STO_GET}};
     sto_reply replies[2];
     expect(sto_run(&worker, list, 2, replies, 2, &number), STO_NO_OBJECT, "a run with an object that is not there");
     list[1] = (sto_call){.object = 0, .operation = STO_PUSH};
     expect(sto_run(&worker, list, 2, replies, 2, &number), STO_NO_CALL, "a run with a call that is not taken");
+    list[1] = (sto_call){.object = 2, .operation = STO_GET};
+    expect(sto_run(&worker, list, 2, replies, 2, &number), STO_BAD_NUMBERS, "a run with a call that wants a key");
     expect(sto_run(&worker, list, 2, replies, 1, &number), STO_NO_ROOM, "a run with room for one reply of two");
     list[0] = (sto_call){.object = 0, .operation = STO_GET};
     need(sto_run(&worker, list, 1, replies, 2, &number), "sto_run");
@@ -110,6 +168,7 @@ int main(void)
 
     need(sto_begin(&worker), "sto_begin");
     expect(sto_run(&worker, list, 1, replies, 2, &number), STO_IN_TRANSACTION, "a run within a transaction");
+    expect(sto_run(&worker, list, 2, replies, 1, &number), STO_NO_ROOM, "a run within a transaction, without room");
     need(sto_cancel(&worker), "sto_cancel");
 
     /* a store that is closed holds its rows: box, counter, and the two keys of the tree */

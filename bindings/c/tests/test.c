@@ -251,6 +251,8 @@ static sto_verdict look(sto_tx *tx, void *given)
     NEED(sto_tree_scan(tx, tree, INT64_MIN, INT64_MAX, pairs, 3) == 4 && sto_tree_len(tx, tree) == 4);
     NEED(sto_tree_scan(tx, tree, 1, 2, pairs, 4) == 2 && pairs[0].key == 1 && pairs[0].value == 2);
     NEED(sto_tree_next(tx, tree, 2, &v) && v == 2 && !sto_tree_next(tx, tree, 4, &v) && sto_tree_count(tx, tree, 0, 9) == 4);
+    NEED(sto_tree_walk(tx, tree, 1, pairs, 2) == 2 && pairs[0].key == 1 && pairs[1].key == 2 && pairs[1].value == 1);
+    NEED(sto_tree_walk(tx, tree, 3, pairs, 2) == 1 && pairs[0].key == 3 && sto_tree_walk(tx, tree, 4, pairs, 2) == 0);
     NEED(sto_tree_get(tx, tree, 3, &v) && v == 0 && sto_counter_get(tx, moves) == 0);
     NEED(sto_array_get(tx, row, 2) == 7 && sto_counter_at_least(tx, top, 1) && !sto_counter_take(tx, moves, INT64_MAX));
     sto_array_add(tx, row, 2, 5);
@@ -288,6 +290,7 @@ int main(int argc, char **argv)
     test_fork();
     test_calls();
     NEED(!strcmp(sto_status_text(STO_ABORTED), "the transaction met another one") && sto_version() == STO_VERSION_NUMBER);
+    NEED(!strcmp(sto_version_text(), STO_VERSION));
     NEED(!strcmp(sto_build(), "plain") || !strcmp(sto_build(), "proved"));
     printf("the door, on the %s library: all is well\n", sto_build());
     return 0;

@@ -1,4 +1,4 @@
-//! What the library tells of itself: sto_atomic.h declares these functions.
+//! What the library tells of itself: sto.h declares these functions.
 use std::os::raw::c_char;
 
 /// Upon what the program stands.
@@ -17,6 +17,12 @@ pub extern "C" fn sto_sources() -> *const c_char {
 #[no_mangle]
 pub extern "C" fn sto_version() -> u32 {
     number("VERSION")
+}
+
+/// The same as a text.
+#[no_mangle]
+pub extern "C" fn sto_version_text() -> *const c_char {
+    b"VERSION\0".as_ptr().cast()
 }
 
 fn number(version: &str) -> u32 {

@@ -19,6 +19,7 @@ TEXTS = (
     "the worker has begun 2^40 transactions", "no worker rests in the store", "a store has from 1 to 65536 workers",
     "no such kind of object", "objects out of order", "an object has no room, or is too large",
     "the objects have 2^32 parts or more", "too little room for the answer", "workers are out",
+    "the operation wants another number of numbers of this object",
 )
 
 
@@ -31,7 +32,7 @@ class Shape(Structure):
 
 
 class Call(Structure):
-    _fields_ = [("object", c_uint32), ("operation", c_uint32), ("a", c_int64), ("b", c_int64)]
+    _fields_ = [("object", c_uint32), ("operation", c_uint32), ("numbers", c_uint32), ("unused", c_uint32), ("a", c_int64), ("b", c_int64)]
 
 
 class Reply(Structure):
@@ -51,6 +52,7 @@ FUNCTIONS = {
     "sto_open": [HANDLE, POINTER(Shape), c_size_t, c_uint32], "sto_worker": [HANDLE, HANDLE], "sto_give_back": [HANDLE],
     "sto_close": [HANDLE], "sto_rows": [HANDLE, POINTER(Row), c_size_t, SIZE], "sto_free": [HANDLE], "sto_begin": [HANDLE],
     "sto_ask": [HANDLE, POINTER(Call), POINTER(Reply)], "sto_pairs": [HANDLE, POINTER(Pair), c_size_t, SIZE],
+    "sto_walk": [HANDLE, c_uint32, c_int64, POINTER(Pair), c_size_t, SIZE],
     "sto_commit": [HANDLE, POINTER(c_uint64)], "sto_cancel": [HANDLE],
 }
 

@@ -61,7 +61,7 @@ class Box(Object):
     __slots__ = ()
 
     def __getitem__(self, tx: Transaction) -> int:
-        return tx._ask(self, raw.GET, 0).value
+        return tx._ask(self, raw.GET).value
 
     def __setitem__(self, tx: Transaction, value: int) -> None:
         tx._ask(self, raw.SET, word(value))
@@ -73,7 +73,7 @@ class Counter(Object):
     __slots__ = ()
 
     def __getitem__(self, tx: Transaction) -> int:
-        return tx._ask(self, raw.GET, 0).value
+        return tx._ask(self, raw.GET).value
 
     def add(self, tx: Transaction, delta: int = 1) -> None:
         if tx._ask(self, raw.ADD, word(delta)).answer == raw.RANGE:
@@ -153,7 +153,7 @@ class Keyed(Object):
         return tx._ask(self, raw.GET, self._key(key)).answer != raw.ABSENT
 
     def len(self, tx: Transaction) -> int:
-        return tx._ask(self, raw.LEN, 0).value
+        return tx._ask(self, raw.LEN).value
 
 
 class Table(Keyed):
@@ -169,9 +169,13 @@ class Tree(Keyed):
     __slots__ = ()
 
     def items(self, tx: Transaction, low: Optional[int] = None, high: Optional[int] = None, limit: Optional[int] = None) -> List[Tuple[int, int]]:
-        """The keys from `low` to `high`, both of them with it, and their values; at most `limit`."""
-        many = tx._ask(self, raw.SCAN, LEAST if low is None else word(low), MOST if high is None else word(high)).value
-        return tx._pairs(many)[:limit]
+        """The keys from `low` to `high`, both of them with it, and their values; at most `limit`, and then no key beyond them is read."""
+        first, last = LEAST if low is None else word(low), MOST if high is None else word(high)
+        if limit is None:
+            return tx._pairs(tx._ask(self, raw.SCAN, first, last).value)
+        if limit < 0:
+            raise ValueError("a limit is at least 0")
+        return [(key, value) for key, value in tx._walk(self, first, limit) if key <= last]
 
     def next(self, tx: Transaction, key: int) -> Optional[int]:
         """The least key that is at least this one."""
@@ -199,10 +203,10 @@ class Vector(Object):
             raise Full(f"{self!r} has no room")
 
     def pop(self, tx: Transaction) -> int:
-        reply = tx._ask(self, raw.POP, 0)
+        reply = tx._ask(self, raw.POP)
         if reply.answer == raw.ABSENT:
             raise IndexError("the vector is empty")
         return reply.value
 
     def len(self, tx: Transaction) -> int:
-        return tx._ask(self, raw.LEN, 0).value
+        return tx._ask(self, raw.LEN).value

@@ -59,23 +59,24 @@ class Transaction:
         self._call, self._reply = raw.Call(), raw.Reply()
         self._call_at, self._reply_at = byref(self._call), byref(self._reply)
 
-    def _see(self) -> None:
-        """Sees that the transaction can go on."""
+    def _see(self, thing: Optional["Object"] = None) -> None:
+        """Sees that the transaction can go on, with this object."""
         if self._worker.tx is not self:
             raise WrongUse("the transaction has ended")
         if self._thread != threading.get_ident():
             raise WrongUse("the transaction belongs to another thread")
         if self._stopped is not None:
             raise Stop
-
-    def _ask(self, thing: "Object", operation: int, a: int, b: int = 0) -> raw.Reply:
-        self._see()
-        if thing._store is not self._store:
+        if thing is not None and thing._store is not self._store:
             raise ValueError("the object is one of another store")
+
+    def _ask(self, thing: "Object", operation: int, a: Optional[int] = None, b: Optional[int] = None) -> raw.Reply:
+        self._see(thing)
         if operation in raw.CHANGES:
             self._wrote = True
         call = self._call
-        call.object, call.operation, call.a, call.b = thing._number, operation, a, b
+        call.object, call.operation, call.numbers = thing._number, operation, (a is not None) + (b is not None)
+        call.a, call.b = a or 0, b or 0
         status = lib.sto_ask(self._worker.at, self._call_at, self._reply_at)
         if status:
             self._stopped = status
@@ -85,6 +86,15 @@ class Transaction:
     def _pairs(self, many: int) -> List[Tuple[int, int]]:
         pairs, count = (raw.Pair * max(1, many))(), ctypes.c_size_t()
         status = lib.sto_pairs(self._worker.at, pairs, many, byref(count))
+        if status:
+            self._stopped = status
+            raise Stop
+        return [(it.key, it.value) for it in pairs[: count.value]]
+
+    def _walk(self, tree: "Object", first: int, limit: int) -> List[Tuple[int, int]]:
+        self._see(tree)
+        pairs, count = (raw.Pair * max(1, limit))(), ctypes.c_size_t()
+        status = lib.sto_walk(self._worker.at, tree._number, first, pairs, limit, byref(count))
         if status:
             self._stopped = status
             raise Stop

@@ -101,9 +101,12 @@ class Tests(unittest.TestCase):
             def order(tx):
                 for key in (5, 1, 3):
                     tree[tx, key] = key * 10
-                return tree.items(tx, low=2), tree.items(tx, limit=1), tree.next(tx, 4), tree.count(tx, 0, 3), tree.discard(tx, 9)
+                return tree.items(tx, low=2), tree.items(tx, limit=1), tree.items(tx, 2, 2, limit=5), tree.next(tx, 4), tree.count(tx, 0, 3), tree.discard(tx, 9)
 
-            self.assertEqual(store.atomically(order), ([(3, 30), (5, 50)], [(1, 10)], 5, 2, False))
+            self.assertEqual(store.atomically(order), ([(3, 30), (5, 50)], [(1, 10)], [], 5, 2, False))
+            self.assertEqual(store.atomically(lambda tx: tree.items(tx, 0, 4, limit=9)), [(1, 10), (3, 30)])
+            with self.assertRaises(ValueError):
+                store.atomically(lambda tx: tree.items(tx, limit=-1))
             with self.assertRaises(RuntimeError):
                 store.box(1)
 

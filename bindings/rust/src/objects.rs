@@ -123,14 +123,14 @@ impl<T: Word> TVar<T> {
     /// Its value.
     #[inline]
     pub fn get(&self, tx: &mut Tx<'_>) -> Result<T, Stop> {
-        let reply = tx.ask(self.id, raw::GET, 0, 0)?;
+        let reply = tx.ask(self.id, raw::GET, [])?;
         held(tx, self.id, reply.value)
     }
 
     /// Sets it.
     #[inline]
     pub fn set(&self, tx: &mut Tx<'_>, value: T) -> Result<(), Stop> {
-        tx.ask(self.id, raw::SET, value.to_word(), 0).map(drop)
+        tx.ask(self.id, raw::SET, [value.to_word()]).map(drop)
     }
 
     /// Changes it.
@@ -145,12 +145,12 @@ impl<T: Word> TVar<T> {
 impl Counter {
     /// Its value.
     pub fn get(&self, tx: &mut Tx<'_>) -> Result<i64, Stop> {
-        Ok(tx.ask(self.id, raw::GET, 0, 0)?.value)
+        Ok(tx.ask(self.id, raw::GET, [])?.value)
     }
 
     /// Adds to it. Where the sum is no number of 64 bits the transaction ends by [`Error::Range`].
     pub fn add(&self, tx: &mut Tx<'_>, delta: i64) -> Result<(), Stop> {
-        match tx.ask(self.id, raw::ADD, delta, 0)?.answer {
+        match tx.ask(self.id, raw::ADD, [delta])?.answer {
             raw::RANGE => Err(tx.stop(Error::Range(self.id.object))),
             _ => Ok(()),
         }
@@ -158,7 +158,7 @@ impl Counter {
 
     /// Takes from it where it has as much, and answers whether it had.
     pub fn take(&self, tx: &mut Tx<'_>, amount: i64) -> Result<Taken, Stop> {
-        let reply = tx.ask(self.id, raw::TAKE, amount, 0)?;
+        let reply = tx.ask(self.id, raw::TAKE, [amount])?;
         match reply.answer {
             raw::RANGE => Err(tx.stop(Error::Range(self.id.object))),
             _ => Ok(Taken(reply.value != 0)),
@@ -167,7 +167,7 @@ impl Counter {
 
     /// Whether it is at least so much. Other transactions may change it meanwhile, as long as the answer stays.
     pub fn at_least(&self, tx: &mut Tx<'_>, amount: i64) -> Result<bool, Stop> {
-        Ok(tx.ask(self.id, raw::TEST, 5, amount)?.value != 0)
+        Ok(tx.ask(self.id, raw::TEST, [5, amount])?.value != 0)
     }
 }
 
@@ -189,7 +189,7 @@ impl<T: Word> Array<T> {
 
     /// The value at a place. Where there is no such place the transaction ends by [`Error::NoPlace`].
     pub fn get(&self, tx: &mut Tx<'_>, at: usize) -> Result<T, Stop> {
-        let reply = tx.ask(self.id, raw::GET, Self::place(at), 0)?;
+        let reply = tx.ask(self.id, raw::GET, [Self::place(at)])?;
         match reply.answer {
             raw::ABSENT => Err(tx.stop(Error::NoPlace(self.id.object, Self::place(at)))),
             _ => held(tx, self.id, reply.value),
@@ -198,7 +198,7 @@ impl<T: Word> Array<T> {
 
     /// Sets a place. Where there is no such place the transaction ends by [`Error::NoPlace`].
     pub fn set(&self, tx: &mut Tx<'_>, at: usize, value: T) -> Result<(), Stop> {
-        match tx.ask(self.id, raw::SET, Self::place(at), value.to_word())?.answer {
+        match tx.ask(self.id, raw::SET, [Self::place(at), value.to_word()])?.answer {
             raw::ABSENT => Err(tx.stop(Error::NoPlace(self.id.object, Self::place(at)))),
             _ => Ok(()),
         }
@@ -208,7 +208,7 @@ impl<T: Word> Array<T> {
 impl Array<i64> {
     /// Adds to a place.
     pub fn add(&self, tx: &mut Tx<'_>, at: usize, delta: i64) -> Result<(), Stop> {
-        match tx.ask(self.id, raw::ADD, Self::place(at), delta)?.answer {
+        match tx.ask(self.id, raw::ADD, [Self::place(at), delta])?.answer {
             raw::ABSENT => Err(tx.stop(Error::NoPlace(self.id.object, Self::place(at)))),
             raw::RANGE => Err(tx.stop(Error::Range(self.id.object))),
             _ => Ok(()),
@@ -238,7 +238,7 @@ macro_rules! keyed {
 
             /// The value of a key.
             pub fn get(&self, tx: &mut Tx<'_>, key: K) -> Result<Option<V>, Stop> {
-                let reply = tx.ask(self.id, raw::GET, Self::word(key), 0)?;
+                let reply = tx.ask(self.id, raw::GET, [Self::word(key)])?;
                 match reply.answer {
                     raw::ABSENT => Ok(None),
                     _ => held(tx, self.id, reply.value).map(Some),
@@ -255,7 +255,7 @@ macro_rules! keyed {
 
             /// Puts a key with a value where there is room.
             pub fn try_put(&self, tx: &mut Tx<'_>, key: K, value: V) -> Result<Result<(), NoRoom>, Stop> {
-                match tx.ask(self.id, raw::PUT, Self::word(key), value.to_word())?.answer {
+                match tx.ask(self.id, raw::PUT, [Self::word(key), value.to_word()])?.answer {
                     raw::FULL => Ok(Err(NoRoom)),
                     _ => Ok(Ok(())),
                 }
@@ -263,12 +263,12 @@ macro_rules! keyed {
 
             /// Removes a key, and answers whether it was there.
             pub fn remove(&self, tx: &mut Tx<'_>, key: K) -> Result<bool, Stop> {
-                Ok(tx.ask(self.id, raw::REMOVE, Self::word(key), 0)?.value != 0)
+                Ok(tx.ask(self.id, raw::REMOVE, [Self::word(key)])?.value != 0)
             }
 
             /// How many keys there are.
             pub fn len(&self, tx: &mut Tx<'_>) -> Result<usize, Stop> {
-                Ok(tx.ask(self.id, raw::LEN, 0, 0)?.value as usize)
+                Ok(tx.ask(self.id, raw::LEN, [])?.value as usize)
             }
         }
     };
@@ -280,7 +280,7 @@ keyed!(Tree, Key, std::convert::identity);
 impl<K: Key, V: Word> Table<K, V> {
     /// Whether a key is there.
     pub fn has(&self, tx: &mut Tx<'_>, key: K) -> Result<bool, Stop> {
-        Ok(tx.ask(self.id, raw::HAS, Self::word(key), 0)?.value != 0)
+        Ok(tx.ask(self.id, raw::HAS, [Self::word(key)])?.value != 0)
     }
 }
 
@@ -301,7 +301,7 @@ impl<K: Key, V: Word> Tree<K, V> {
 
     /// The least key that is at least this one.
     pub fn next(&self, tx: &mut Tx<'_>, key: K) -> Result<Option<K>, Stop> {
-        let reply = tx.ask(self.id, raw::NEXT, key.to_word(), 0)?;
+        let reply = tx.ask(self.id, raw::NEXT, [key.to_word()])?;
         match reply.answer {
             raw::ABSENT => Ok(None),
             _ => held(tx, self.id, reply.value).map(Some),
@@ -312,7 +312,7 @@ impl<K: Key, V: Word> Tree<K, V> {
     pub fn count(&self, tx: &mut Tx<'_>, range: impl RangeBounds<K>) -> Result<usize, Stop> {
         match Self::bounds(range) {
             None => tx.alive().map(|()| 0),
-            Some((low, high)) => Ok(tx.ask(self.id, raw::COUNT, low, high)?.value as usize),
+            Some((low, high)) => Ok(tx.ask(self.id, raw::COUNT, [low, high])?.value as usize),
         }
     }
 
@@ -322,8 +322,19 @@ impl<K: Key, V: Word> Tree<K, V> {
             Some(bounds) => bounds,
             None => return tx.alive().map(|()| Vec::new()),
         };
-        let many = tx.ask(self.id, raw::SCAN, low, high)?.value as usize;
+        let many = tx.ask(self.id, raw::SCAN, [low, high])?.value as usize;
         let pairs = tx.pairs(many)?;
+        self.held_pairs(tx, pairs)
+    }
+
+    /// The first keys from this one on with their values, at most `limit`. Where they are fewer, there are no more. The transaction has
+    /// read no key beyond them.
+    pub fn walk(&self, tx: &mut Tx<'_>, from: K, limit: usize) -> Result<Vec<(K, V)>, Stop> {
+        let pairs = tx.walk(self.id, from.to_word(), limit)?;
+        self.held_pairs(tx, pairs)
+    }
+
+    fn held_pairs(&self, tx: &mut Tx<'_>, pairs: Vec<raw::Pair>) -> Result<Vec<(K, V)>, Stop> {
         pairs.into_iter().map(|it| Ok((held(tx, self.id, it.key)?, held(tx, self.id, it.value)?))).collect()
     }
 }
@@ -331,7 +342,7 @@ impl<K: Key, V: Word> Tree<K, V> {
 impl<T: Word> Vector<T> {
     /// The value at a place, where there is one.
     pub fn get(&self, tx: &mut Tx<'_>, at: usize) -> Result<Option<T>, Stop> {
-        let reply = tx.ask(self.id, raw::GET, i64::try_from(at).unwrap_or(i64::MAX), 0)?;
+        let reply = tx.ask(self.id, raw::GET, [i64::try_from(at).unwrap_or(i64::MAX)])?;
         match reply.answer {
             raw::ABSENT => Ok(None),
             _ => held(tx, self.id, reply.value).map(Some),
@@ -348,7 +359,7 @@ impl<T: Word> Vector<T> {
 
     /// Puts a value behind the others where there is room.
     pub fn try_push(&self, tx: &mut Tx<'_>, value: T) -> Result<Result<(), NoRoom>, Stop> {
-        match tx.ask(self.id, raw::PUSH, value.to_word(), 0)?.answer {
+        match tx.ask(self.id, raw::PUSH, [value.to_word()])?.answer {
             raw::FULL => Ok(Err(NoRoom)),
             _ => Ok(Ok(())),
         }
@@ -356,7 +367,7 @@ impl<T: Word> Vector<T> {
 
     /// Takes the last value.
     pub fn pop(&self, tx: &mut Tx<'_>) -> Result<Option<T>, Stop> {
-        let reply = tx.ask(self.id, raw::POP, 0, 0)?;
+        let reply = tx.ask(self.id, raw::POP, [])?;
         match reply.answer {
             raw::ABSENT => Ok(None),
             _ => held(tx, self.id, reply.value).map(Some),
@@ -365,6 +376,6 @@ impl<T: Word> Vector<T> {
 
     /// How many values there are.
     pub fn len(&self, tx: &mut Tx<'_>) -> Result<usize, Stop> {
-        Ok(tx.ask(self.id, raw::LEN, 0, 0)?.value as usize)
+        Ok(tx.ask(self.id, raw::LEN, [])?.value as usize)
     }
 }

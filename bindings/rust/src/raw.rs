@@ -30,8 +30,19 @@ pub struct Shape {
 pub struct Call {
     pub object: u32,
     pub operation: u32,
+    pub numbers: u32,
+    pub unused: u32,
     pub a: i64,
     pub b: i64,
+}
+
+impl Call {
+    /// The call of an operation with these numbers, two at most.
+    #[inline]
+    pub fn new(object: u32, operation: u32, numbers: &[i64]) -> Call {
+        let number = |at: usize| numbers.get(at).copied().unwrap_or(0);
+        Call { object, operation, numbers: numbers.len() as u32, unused: 0, a: number(0), b: number(1) }
+    }
 }
 
 #[repr(C)]
@@ -67,6 +78,7 @@ extern "C" {
     pub fn sto_begin(worker: *mut Handle) -> u32;
     pub fn sto_ask(worker: *mut Handle, call: *const Call, reply: *mut Reply) -> u32;
     pub fn sto_pairs(worker: *mut Handle, pairs: *mut Pair, room: usize, count: *mut usize) -> u32;
+    pub fn sto_walk(worker: *mut Handle, object: u32, from: i64, pairs: *mut Pair, room: usize, count: *mut usize) -> u32;
     pub fn sto_commit(worker: *mut Handle, place: *mut u64) -> u32;
     pub fn sto_cancel(worker: *mut Handle) -> u32;
     pub fn sto_build() -> *const c_char;

@@ -76,18 +76,25 @@ impl Tx<'_> {
     }
 
     #[inline]
-    pub(crate) fn ask(&mut self, id: Id, operation: u32, a: i64, b: i64) -> Result<raw::Reply, Stop> {
-        self.alive()?;
-        if id.store != self.inner.id {
-            return Err(self.stop(Error::OtherStore(id.object)));
-        }
+    pub(crate) fn ask<const N: usize>(&mut self, id: Id, operation: u32, numbers: [i64; N]) -> Result<raw::Reply, Stop> {
+        let object = self.number_of(id)?;
         self.wrote |= READS >> operation & 1 == 0;
-        let call = raw::Call { object: self.inner.bases[id.object.kind as usize] + id.object.index, operation, a, b };
+        let call = raw::Call::new(object, operation, &numbers);
         let mut reply = raw::Reply { answer: 0, unused: 0, value: 0 };
         match unsafe { raw::sto_ask(self.worker, &call, &mut reply) } {
             raw::OK => Ok(reply),
             status => Err(self.refused(status)),
         }
+    }
+
+    /// The number of an object, which is one of this store.
+    #[inline]
+    fn number_of(&mut self, id: Id) -> Result<u32, Stop> {
+        self.alive()?;
+        if id.store != self.inner.id {
+            return Err(self.stop(Error::OtherStore(id.object)));
+        }
+        Ok(self.inner.bases[id.object.kind as usize] + id.object.index)
     }
 
     #[cold]
@@ -99,13 +106,29 @@ impl Tx<'_> {
         self.stop(Error::of(status))
     }
 
-    pub(crate) fn pairs(&mut self, many: usize) -> Result<Vec<raw::Pair>, Stop> {
+    /// Room for so many pairs.
+    fn room(&mut self, many: usize) -> Result<Vec<raw::Pair>, Stop> {
         let mut pairs = Vec::new();
         if pairs.try_reserve_exact(many).is_err() {
             return Err(self.stop(Error::NoMemory));
         }
         pairs.resize(many, raw::Pair { key: 0, value: 0 });
-        let mut count = 0;
+        Ok(pairs)
+    }
+
+    pub(crate) fn walk(&mut self, tree: Id, from: i64, limit: usize) -> Result<Vec<raw::Pair>, Stop> {
+        let (object, mut pairs, mut count) = (self.number_of(tree)?, self.room(limit)?, 0);
+        match unsafe { raw::sto_walk(self.worker, object, from, pairs.as_mut_ptr(), limit, &mut count) } {
+            raw::OK => {
+                pairs.truncate(count);
+                Ok(pairs)
+            }
+            status => Err(self.refused(status)),
+        }
+    }
+
+    pub(crate) fn pairs(&mut self, many: usize) -> Result<Vec<raw::Pair>, Stop> {
+        let (mut pairs, mut count) = (self.room(many)?, 0);
         match unsafe { raw::sto_pairs(self.worker, pairs.as_mut_ptr(), many, &mut count) } {
             raw::OK => Ok(pairs),
             status => Err(self.refused(status)),

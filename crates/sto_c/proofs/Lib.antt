@@ -1,8 +1,12 @@
+pub mod Asking
+pub mod Scalars
 pub mod Values
 pub mod Copying
 pub mod Planned
 pub mod Replies
 pub mod Sending
+pub mod Walked
 pub mod Whole
 pub mod Gathering
+pub mod CallRefutations
 pub mod Refutations

@@ -1,5 +1,6 @@
 -- What was planned of the shapes that were given, and why a shape was not.
-use Rattle.std.proofs.Common.{◌≡◌, ◌+◌, ◌≤◌, ℕ, suc, List, [], ◌∷◌, ◌++◌, length, map, take, drop, slice_get, Option, Some, sym, ap, ◌∙◌, subst, arith}
+use Rattle.std.proofs.Common.{◌≡◌, ◌+◌, ◌≤◌, ℕ, suc, List, [], ◌∷◌, ◌++◌, ◌^◌, length, map, take, drop, slice_get, Option, Some, sym, ap, ◌∙◌, subst, arith}
+use Rattle.std.specs.List.{All}
 use Rattle.std.proofs.lemmas.List.{take-append-drop, take_all, map-append, append-nil, append_assoc}
 use Rattle.sto_model.specs.declared.shape.Shape.{Shape}
 use Rattle.sto_shared_store.specs.declared.plan_error.PlanError.{PlanError}
@@ -8,12 +9,18 @@ use Rattle.sto_shared_store.specs.declared.open_error.OpenError.{OpenError}
 use Rattle.sto_shared_store.specs.declared.open_error.OpenError.TheVariants as open_error
 use Rattle.sto_shared_store.specs.Plans.{IsReason, CanStand, AllStand}
 use Rattle.sto_shared_store.specs.Refusals.{IsCause}
+use Rattle.sto_shared_store.specs.Working.{IsFresh}
+use Rattle.sto_shared_store.specs.declared.store.Store.{Store}
+use Rattle.sto_shared_store.specs.declared.worker.CountedRest.{CountedRest}
+use Rattle.sto_store.specs.declared.objects.Objects.{Objects}
+use Rattle.sto_store.specs.contracts.objects.ObjectsNaming.TheImpl.{ghosts as naming_ghosts}
 use Rattle.sto_c.specs.declared.crossing.ShapeIn.{ShapeIn}
 use Rattle.sto_c.specs.declared.status.Status.{Status}
 use Rattle.sto_c.specs.declared.status.Status.TheVariants as status
+use Rattle.sto_c.specs.Content.{objects}
 use Rattle.sto_c.specs.Crossing.{shape_in}
 use Rattle.sto_c.specs.Statuses.{of_unplanned, of_unopened}
-use Rattle.sto_c.specs.Stores.{IsUnfit, IsRefused, IsUnplanned, IsUnopened}
+use Rattle.sto_c.specs.Stores.{IsNew, IsUnfit, IsRefused, ArePlanned, IsUnplanned, IsUnopened}
 use Rattle.sto_c.proofs.Copying.{drop_next, take_next}
 
 -- the shape at the place i cannot stand behind those before it
@@ -68,7 +75,15 @@ pub unplanned_unopened : (shapes : List ShapeIn) (workers : ℕ) (why : Status) 
 unplanned_unopened shapes workers status.BadWorkers h = absurd h.reason
 unplanned_unopened shapes workers why h = h
 
--- the same by what opening answered
-pub caused_unopened : (shapes : List ShapeIn) (workers : ℕ) (error : OpenError) → IsCause error workers → IsUnopened shapes workers (of_unopened error)
-caused_unopened shapes workers open_error.Workers cause = cause
-caused_unopened shapes workers open_error.NoMemory cause = tt
+-- the same by what opening answered, where all were planned
+pub caused_unopened : (shapes : List ShapeIn) (planned : List Shape) (workers : ℕ) (error : OpenError) → ArePlanned shapes planned → IsCause error workers → IsUnopened shapes workers (of_unopened error)
+caused_unopened shapes planned workers open_error.Workers all cause = ((planned, all), cause)
+caused_unopened shapes planned workers open_error.NoMemory all cause = tt
+
+-- the workers of a store that was opened are new
+pub opened_new : (s t : Store Objects) (xs ys : List (CountedRest Objects naming_ghosts)) → s ≡ t → xs ≡ ys
+    → All (λ (w : CountedRest Objects naming_ghosts). IsFresh (objects.meaning t.ty) (objects.sizes t.ty) t.shared w.rest.seat) ys
+    → All (λ (w : CountedRest Objects naming_ghosts). w.left ≡ 2 ^ 40) ys → All (IsNew s) xs
+opened_new s t xs ys same all fresh left =
+    subst (λ (o : Store Objects). All (IsNew o) xs) (sym same)
+    (subst (λ (l : List (CountedRest Objects naming_ghosts)). All (IsNew t) l) (sym all) (λ k d less. (fresh k d less, left k d less)))

@@ -1,7 +1,9 @@
 -- What the clauses of the library refuse.
 use Rattle.std.specs.Prelude.{if◌then◌else◌, IfSome}
 use Rattle.std.specs.Arc.{arc_value}
-use Rattle.std.proofs.Common.{◌≡◌, ◌≢◌, ◌+◌, ◌<◌, ◌≤◌, ℕ, zero, suc, ℤ, pos, Bool, true, false, true≢false, List, [], ◌∷◌, ◌++◌, length, length-append, map, Option, Some, None, Ok, refl, sym, ap, ◌∙◌, subst, arith, ne_eqb, append-nil, append_assoc, inl, inr}
+use Rattle.std.specs.List.{All}
+use Rattle.std.proofs.Common.{◌≡◌, ◌≢◌, ◌+◌, ◌<◌, ◌≤◌, ℕ, zero, suc, ℤ, pos, Bool, true≢false, List, [], ◌∷◌, ◌++◌, length, length-append, map, Option, Some, None, Ok, refl, sym, ap, ◌∙◌, subst, arith, ne_eqb, append-nil, append_assoc, inl, inr}
+use Rattle.std.proofs.lemmas.List.Elements.{All-head}
 use Rattle.sto_model.specs.SequentialObjects.{opening_of}
 use Rattle.sto_model.specs.Run.{State, state_along}
 use Rattle.sto_model.specs.declared.shape.Shape.{Shape}
@@ -26,7 +28,7 @@ use Rattle.sto_c.specs.declared.crossing.ShapeIn.{ShapeIn}
 use Rattle.sto_c.specs.declared.status.Status.{Status}
 use Rattle.sto_c.specs.Content.{objects}
 use Rattle.sto_c.specs.Crossing.{rows_out}
-use Rattle.sto_c.specs.Stores.{HasShapes, IsRefused, HasGivenBack, AreClosedRows}
+use Rattle.sto_c.specs.Stores.{IsNew, HasShapes, IsRefused, HasGivenBack, AreClosedRows}
 
 -- a box that held 1, and one transaction, which set it to 5
 abbrev fives : State
@@ -109,6 +111,20 @@ no_store_for_two shapes h one two = let a = one.passes in let b = two.passes in 
 -- a store of two workers, where one of them rests
 pub no_missing_worker : (shapes : List ShapeIn) (h : StoreHandle) → HasShapes shapes 2 h → length h.store.idle.items ≡ 1 → ⊥
 no_missing_worker shapes h two rest = let b = two.rest in omega (arith, rest, b)
+
+module _ (shapes : List ShapeIn) (workers : ℕ) (h : StoreHandle) (opened : HasShapes shapes workers h) where
+  module _ (w : CountedRest Objects naming_ghosts) (ws : List (CountedRest Objects naming_ghosts)) (rests : h.store.idle.items ≡ w ∷ ws) where
+    first_new : IsNew (arc_value h.store.store) w
+    first_new =
+        All-head (IsNew (arc_value h.store.store)) w ws (subst (λ (l : List (CountedRest Objects naming_ghosts)). All (IsNew (arc_value h.store.store)) l) rests opened.new)
+
+    -- a store whose first worker has begun or committed something
+    pub no_store_with_past : w.rest.seat.me.0.view.entries ≢ [] → ⊥
+    no_store_with_past past = past (ap (λ v. v.entries) first_new.0.view)
+
+    -- or may begin nothing
+    pub no_store_without_tickets : w.left ≡ 0 → ⊥
+    no_store_without_tickets none = let all = first_new.1 in omega (arith, none, all)
 
 -- one of the shapes is at a place that it cannot stand at
 one_stands : (before first : List Shape) (s : Shape) (after : List Shape) → AllStand before (first ++ s ∷ after) → CanStand (before ++ first) s

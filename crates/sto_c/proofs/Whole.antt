@@ -1,5 +1,5 @@
 -- The calls of a whole transaction, one after the other.
-use Rattle.std.proofs.Common.{◌≡◌, ℕ, List, [], ◌∷◌, ◌++◌, length, take, Result, Ok, Err, refl, arith, subst, inl, inr}
+use Rattle.std.proofs.Common.{◌≡◌, ℕ, List, [], ◌∷◌, ◌++◌, length, take, Result, Ok, Err, refl, arith, subst, inr}
 use Rattle.sto_c.specs.declared.crossing.CallIn.{CallIn}
 use Rattle.sto_c.specs.declared.crossing.ReplyOut.{ReplyOut}
 use Rattle.sto_c.specs.declared.content.WorkerHandle.{WorkerHandle}

@@ -1,7 +1,9 @@
+pub mod Calls
 pub mod Content
 pub mod Crossing
 pub mod Raw
 pub mod Statuses
 pub mod Steps
 pub mod Stores
+pub mod Walks
 pub mod Whole

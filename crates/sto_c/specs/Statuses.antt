@@ -1,5 +1,7 @@
 -- The number of each status, as include/sto.h has it.
 use Rattle.std.specs.Prelude.{◌≡◌, ℕ, Result, Ok, Err}
+use Rattle.sto_interactive.specs.declared.asking.AskError.{AskError}
+use Rattle.sto_interactive.specs.declared.asking.AskError.TheVariants as ask_error
 use Rattle.sto_shared_store.specs.declared.plan_error.PlanError.{PlanError}
 use Rattle.sto_shared_store.specs.declared.plan_error.PlanError.TheVariants as plan_error
 use Rattle.sto_shared_store.specs.declared.open_error.OpenError.{OpenError}
@@ -27,6 +29,7 @@ number status.BadSize = 16
 number status.TooMany = 17
 number status.NoRoom = 18
 number status.WorkersOut = 19
+number status.BadNumbers = 20
 
 -- 0 is that of a call that was done
 abbrev pub number_of : Result (Unit {0}) Status → ℕ
@@ -49,3 +52,10 @@ of_unplanned plan_error.NoMemory = status.NoMemory
 abbrev pub of_unopened : OpenError → Status
 of_unopened open_error.Workers = status.BadWorkers
 of_unopened open_error.NoMemory = status.NoMemory
+
+-- what tells why a call was not answered
+abbrev pub of_unasked : AskError → Status
+of_unasked ask_error.NoTransaction = status.NoTransaction
+of_unasked ask_error.Untaken = status.NoCall
+of_unasked ask_error.Aborted = status.Aborted
+of_unasked ask_error.NoMemory = status.NoMemory

@@ -1,5 +1,5 @@
 -- What the calls on a worker lead to: from what a handle holds before a call to what it holds after it, by the status.
-use Rattle.std.specs.Prelude.{◌≡◌, ◌<◌, ◌≤◌, ◌⊎◌, ◌++◌, ℕ, List, length, map, drop, Result, Ok, Err, Option, Some, None, option_map, option_and_then, IfSome, OnOk, MatchOption}
+use Rattle.std.specs.Prelude.{◌≡◌, ◌<◌, ◌++◌, ℕ, List, length, map, drop, Result, Ok, Err, Option, Some, option_map, option_and_then, IfSome, OnOk, MatchOption}
 use Rattle.std.specs.Arc.{arc_value}
 use Rattle.sto_model.specs.declared.call.Call.{Call}
 use Rattle.sto_model.specs.declared.reply.Reply.{Reply}
@@ -22,7 +22,8 @@ use Rattle.sto_c.specs.declared.content.WorkerHandle.{WorkerHandle}
 use Rattle.sto_c.specs.declared.status.Status.{Status}
 use Rattle.sto_c.specs.declared.status.Status.TheVariants as status
 use Rattle.sto_c.specs.Content.{objects}
-use Rattle.sto_c.specs.Crossing.{call_in, reply_out, pair_out, last_of, pairs_of}
+use Rattle.sto_c.specs.Calls.{IsLawfulCall, IsFault}
+use Rattle.sto_c.specs.Crossing.{reply_out, pair_out, last_of, pairs_of}
 
 -- what a handle holds
 abbrev pub held : Handle → HandleContent
@@ -65,20 +66,16 @@ last_reply_of h = option_and_then (λ rs. last_of rs.items) (replies_of h.worker
 abbrev pub HasHeard : ReplyOut → WorkerHandle → Type 0
 HasHeard reply k = option_map reply_out (last_reply_of k) ≡ Some reply
 
--- the call that C gives was asked
+-- nothing is wrong with the call that C gives, and it was asked
 abbrev pub AsksGiven : CallIn → WorkerHandle → WorkerHandle → Result (Unit {0}) AskError → Type 0
-AsksGiven given h k r = (call : Call) × (call_in given ≡ Some call) × Asks h k call r
+AsksGiven given h k r = (call : Call) × IsLawfulCall given h call × Asks h k call r
 
--- a call was asked, or why it was not
+-- a call was asked, or why it was not: it met another transaction, memory was wanting, or what is wrong with it first; then nothing changed
 abbrev pub HasAnswered : CallIn → WorkerHandle → Result (Unit {0}) Status → WorkerHandle → Type 0
-HasAnswered given h (Ok done) k = (given.object < h.objects) × AsksGiven given h k (Ok done)
-HasAnswered given h (Err status.NoObject) k = (h.objects ≤ given.object) × (k ≡ h)
-HasAnswered given h (Err status.NoCall) k = (given.object < h.objects)
-    × (((call_in given ≡ None) × (k ≡ h)) ⊎ AsksGiven given h k (Err ask_error.Untaken))
-HasAnswered given h (Err status.NoTransaction) k = (given.object < h.objects) × AsksGiven given h k (Err ask_error.NoTransaction)
-HasAnswered given h (Err status.Aborted) k = (given.object < h.objects) × AsksGiven given h k (Err ask_error.Aborted)
-HasAnswered given h (Err status.NoMemory) k = (given.object < h.objects) × AsksGiven given h k (Err ask_error.NoMemory)
-HasAnswered given h (Err _) k = ⊥
+HasAnswered given h (Ok done) k = AsksGiven given h k (Ok done)
+HasAnswered given h (Err status.Aborted) k = AsksGiven given h k (Err ask_error.Aborted)
+HasAnswered given h (Err status.NoMemory) k = AsksGiven given h k (Err ask_error.NoMemory)
+HasAnswered given h (Err why) k = IsFault given h why × (k ≡ h)
 
 -- the reply was told where it was answered
 abbrev pub HasAsked : CallIn → ReplyOut → WorkerHandle → Result (Unit {0}) Status → WorkerHandle → Type 0
@@ -124,6 +121,11 @@ OfWorker to (Store h) done y = (done ≡ Err status.OtherHandle) × (y ≡ Store
 OfWorker to (Closed rows) done y = (done ≡ Err status.OtherHandle) × (y ≡ Closed rows)
 OfWorker to (Worker h) done (Worker k) = to h done k
 OfWorker to (Worker h) done _ = ⊥
+
+-- it holds no worker
+abbrev pub IsNoWorker : HandleContent → Type 0
+IsNoWorker (Worker h) = ⊥
+IsNoWorker _ = Unit {0}
 
 -- nothing changed; the rows that a closed store held were copied
 abbrev pub HasToldRows : (old new : List RowOut) → (counted count : ℕ) → HandleContent → Result (Unit {0}) Status → HandleContent → Type 0

@@ -1,17 +1,19 @@
 -- What becomes of stores: how they are opened, give workers out and take them back, and are closed.
-use Rattle.std.specs.Prelude.{◌≡◌, ◌≢◌, ◌<◌, ◌≤◌, ◌+◌, ◌⊎◌, ℕ, Result, Ok, Err, Option, Some, None, IfSome, List, [], ◌∷◌, ◌++◌, length, map}
+use Rattle.std.specs.Prelude.{◌≡◌, ◌≢◌, ◌<◌, ◌≤◌, ◌+◌, ◌^◌, ◌⊎◌, ℕ, zero, suc, Result, Ok, Err, Option, Some, None, IfSome, List, [], ◌∷◌, ◌++◌, length, map}
 use Rattle.std.specs.Arc.{arc_value}
 use Rattle.std.specs.List.{All}
 use Rattle.sto_model.specs.declared.shape.Shape.{Shape}
 use Rattle.sto_model.specs.Objects.{machines_of}
 use Rattle.sto_model.specs.Rows.{Row}
+use Rattle.sto_model.specs.Sizes.{rank}
 use Rattle.sto_store.specs.declared.objects.Objects.{Objects}
 use Rattle.sto_store.specs.contracts.objects.ObjectsNaming.TheImpl.{ghosts as naming_ghosts}
+use Rattle.sto_shared_store.specs.declared.store.Store.{Store as StoreState}
 use Rattle.sto_shared_store.specs.declared.worker.CountedRest.{CountedRest}
 use Rattle.sto_shared_store.specs.declared.plan_error.PlanError.TheVariants as plan_error
 use Rattle.sto_shared_store.specs.Plans.{IsReason, AllStand}
 use Rattle.sto_history.specs.Done.{HaveHistory}
-use Rattle.sto_shared_store.specs.Working.{IsWorker, AreRowsAfter}
+use Rattle.sto_shared_store.specs.Working.{IsWorker, IsFresh, AreRowsAfter}
 use Rattle.sto_interactive.specs.Steps.{IsUnchanged}
 use Rattle.sto_shared_store.specs.Owned.{Leads}
 use Rattle.sto_shared_store.specs.declared.owned_store.OwnedStore.{OwnedStore}
@@ -33,14 +35,26 @@ Fills P Q Nothing (Ok done) y = P y
 Fills P Q Nothing (Err why) y = (y ≡ Nothing) × Q why
 Fills P Q x done y = (done ≡ Err status.Taken) × (y ≡ x)
 
--- a store of objects of these shapes, opened for so many workers, who all rest in it
+-- the first so many of the shapes hold one number each, as boxes and counters do, and no other does
+abbrev pub AreScalars : ℕ → List Shape → Type 0
+AreScalars count [] = count ≡ 0
+AreScalars zero (shape ∷ shapes) = (2 ≤ rank shape) × AreScalars zero shapes
+AreScalars (suc count) (shape ∷ shapes) = (rank shape < 2) × AreScalars count shapes
+
+-- a worker of the store s that was just opened: it has done nothing, knows what the objects held at first, and may draw so many tickets
+abbrev pub IsNew : StoreState Objects → CountedRest Objects naming_ghosts → Type 0
+IsNew s w = IsFresh (objects.meaning s.ty) (objects.sizes s.ty) s.shared w.rest.seat × (w.left ≡ 2 ^ 40)
+
+-- a store of objects of these shapes, opened for so many workers, who all rest in it and are new
 pub record HasShapes (shapes : List ShapeIn) (workers : ℕ) (h : StoreHandle) : Type 0 where
   pub planned : List Shape
   pub all : map shape_in shapes ≡ map Some planned
   pub machines : (objects.meaning (arc_value h.store.store).ty).machines ≡ machines_of planned
-  pub count : h.objects ≡ length shapes
+  pub count : h.objects.all ≡ length shapes
+  pub scalars : AreScalars h.objects.scalars planned
   pub passes : (arc_value h.store.store).shared.table.shared.key.passes ≡ workers
   pub rest : length h.store.idle.items ≡ workers
+  pub new : All (IsNew (arc_value h.store.store)) h.store.idle.items
   pub none_out : h.store.slots.items ≡ []
 
 abbrev pub IsStoreOf : List ShapeIn → ℕ → HandleContent → Type 0
@@ -66,14 +80,18 @@ pub record IsRefused (shapes : List ShapeIn) (why : Status) : Type 0 where
   pub first : AllStand [] planned
   pub reason : IsUnfit why planned (shape_in given)
 
+-- these are the shapes, each of which can stand behind those before it
+abbrev pub ArePlanned : List ShapeIn → List Shape → Type 0
+ArePlanned shapes planned = (map shape_in shapes ≡ map Some planned) × AllStand [] planned
+
 -- why objects of these shapes were not planned
 abbrev pub IsUnplanned : List ShapeIn → Status → Type 0
 IsUnplanned shapes status.NoMemory = Unit {0}
 IsUnplanned shapes why = IsRefused shapes why
 
--- why a store of these shapes was not opened for so many workers
+-- why a store of these shapes was not opened for so many workers; the shapes are looked at first
 abbrev pub IsUnopened : List ShapeIn → ℕ → Status → Type 0
-IsUnopened shapes workers status.BadWorkers = (workers ≡ 0) ⊎ (65536 < workers)
+IsUnopened shapes workers status.BadWorkers = ((planned : List Shape) × ArePlanned shapes planned) × ((workers ≡ 0) ⊎ (65536 < workers))
 IsUnopened shapes workers why = IsUnplanned shapes why
 
 -- the same store, in which at least as many workers rest but so many

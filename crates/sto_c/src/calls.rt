@@ -7,12 +7,13 @@ ghost use Rattle.sto_c.specs.Stores.{HasGivenBack};
 ghost use Rattle.sto_c.specs.Steps.{IsOfSameStore, HasBegun, HasAnswered, HasAsked, HasCommitted, HasCancelled, last_reply_of};
 ghost use Rattle.sto_c.specs.Whole.{HaveAsked, HasNotAnswered, HasTriedWhole, HasRunWhole};
 
+use crate::checking::call_of;
 use crate::content::{HandleContent, WorkerHandle};
 use crate::crossing::{CallIn, ReplyOut};
 use crate::status::Status;
 use crossbeam_utils::Backoff;
 use std::alloc::Global;
-use sto_interactive::{AskError, BeginError, CommitError};
+use sto_interactive::{BeginError, CommitError};
 use sto_model::{Replies, Reply};
 use sto_shared_store::GiveBackError;
 
@@ -56,25 +57,20 @@ fn tell_last(held: &WorkerHandle, reply: &mut ReplyOut)
     }
 }
 
-// Asks a call of the transaction that it is in: of an object that is there, and by an operation that is one.
+// Asks a call of the transaction that it is in, where nothing is wrong with it.
 fn answer(alloc: Global, held: &mut WorkerHandle, given: &CallIn) -> Result<(), Status>
     requires { IsWorker held.old }
     ensures worker { IsWorker held.new }
     ensures store { IsOfSameStore held.old held.new }
     ensures asked { HasAnswered given.now held.old result held.new }
 {
-    if held.objects <= given.object {
-        return Err(Status::NoObject);
-    }
-    let Some(call) = given.call() else {
-        return Err(Status::NoCall);
+    let call = match call_of(held, given) {
+        Ok(call) => call,
+        Err(status) => return Err(status),
     };
     match held.worker.ask(alloc, call) {
         Ok(()) => Ok(()),
-        Err(AskError::NoTransaction) => Err(Status::NoTransaction),
-        Err(AskError::Untaken) => Err(Status::NoCall),
-        Err(AskError::Aborted) => Err(Status::Aborted),
-        Err(AskError::NoMemory) => Err(Status::NoMemory),
+        Err(error) => Err(Status::from(error)),
     }
 }
 

@@ -5,15 +5,23 @@ use crate::crossing::RowsOut;
 use sto_shared_store::{OwnedStore, OwnedWorker};
 use sto_store::Objects;
 
+/// How many objects a store has.
+#[derive(Clone, Copy)]
+pub struct ObjectCounts {
+    pub all: u32,
+    /// How many of them hold one number: the boxes and the counters, which stand first.
+    pub scalars: u32,
+}
+
 /// A store, with how many objects it has.
 pub struct StoreHandle {
     pub(crate) store: OwnedStore<Objects>,
-    pub(crate) objects: u32,
+    pub(crate) objects: ObjectCounts,
 }
 
 impl StoreHandle {
     /// The store, and how many objects it has.
-    pub(crate) fn into_parts(self) -> (OwnedStore<Objects>, u32)
+    pub(crate) fn into_parts(self) -> (OwnedStore<Objects>, ObjectCounts)
         ensures { (result.0 ≡ self.store) × (result.1 ≡ self.objects) }
     {
         let StoreHandle { store, objects } = self;
@@ -33,12 +41,12 @@ impl Drop for StoreHandle {
 /// A worker, with how many objects its store has.
 pub struct WorkerHandle {
     pub(crate) worker: OwnedWorker<Objects>,
-    pub(crate) objects: u32,
+    pub(crate) objects: ObjectCounts,
 }
 
 impl WorkerHandle {
     /// The worker, and how many objects its store has.
-    pub(crate) fn into_parts(self) -> (OwnedWorker<Objects>, u32)
+    pub(crate) fn into_parts(self) -> (OwnedWorker<Objects>, ObjectCounts)
         ensures { (result.0 ≡ self.worker) × (result.1 ≡ self.objects) }
     {
         let WorkerHandle { worker, objects } = self;

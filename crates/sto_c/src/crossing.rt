@@ -41,12 +41,14 @@ impl ShapeIn {
     }
 }
 
-/// A call.
+/// A call, with how many of its two numbers are given.
 #[repr(C)]
 #[derive(Clone, Copy)]
 pub struct CallIn {
     pub object: u32,
     pub operation: u32,
+    pub numbers: u32,
+    pub unused: u32,
     pub a: i64,
     pub b: i64,
 }

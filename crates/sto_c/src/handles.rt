@@ -24,7 +24,9 @@ ghost use Rattle.sto_c.specs.Steps.{
   HasToldPairs,
   HasToldLeft,
   HasToldRows,
+  IsNoWorker,
 };
+ghost use Rattle.sto_c.specs.Walks.{HasWalked};
 ghost use Rattle.sto_c.specs.Whole.{HasRunWhole};
 
 use crate::content::HandleContent;
@@ -212,6 +214,28 @@ pub(crate) fn pairs(
         return Err(Status::Empty);
     };
     let done = holding::pairs(&*value, pairs, count);
+    worker.put(value);
+    done
+}
+
+/// Copies the next pairs of a tree.
+pub(crate) fn walk(
+    alloc: Global,
+    worker: &mut Handle,
+    object: u32,
+    from: i64,
+    pairs: &mut [PairOut],
+    count: &mut usize,
+) -> Result<(), Status>
+    ensures walked { OfWorker (HasWalked object from pairs.old pairs.new count.new) (held worker.old) result (held worker.new) }
+    ensures kept { OnErr result (count.new ≡ count.old) }
+    ensures untouched { IsNoWorker (held worker.old) → pairs.new ≡ pairs.old }
+{
+    let Some(value) = worker.take(alloc) else {
+        return Err(Status::Empty);
+    };
+    let mut value = value;
+    let done = holding::walk(alloc, &mut *value, object, from, pairs, count);
     worker.put(value);
     done
 }

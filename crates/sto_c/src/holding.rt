@@ -13,13 +13,15 @@ ghost use Rattle.sto_c.specs.Steps.{
   HasToldPairs,
   HasToldLeft,
   HasToldRows,
+  IsNoWorker,
 };
+ghost use Rattle.sto_c.specs.Walks.{HasWalked};
 ghost use Rattle.sto_c.specs.Whole.{HasRunWhole};
 
 use crate::content::{HandleContent, WorkerHandle};
 use crate::crossing::{CallIn, PairOut, ReplyOut, RowOut};
 use crate::status::Status;
-use crate::{calls, opening, telling};
+use crate::{calls, opening, telling, walking};
 use std::alloc::Global;
 use std::mem;
 
@@ -132,6 +134,28 @@ pub(crate) fn pairs(
         HandleContent::Nothing => Err(Status::Empty),
         HandleContent::Store(_) | HandleContent::Closed(_) => Err(Status::OtherHandle),
         HandleContent::Worker(worker) => telling::last_pairs(worker, out, count),
+    }
+}
+
+/// Copies the next pairs of a tree.
+pub(crate) fn walk(
+    alloc: Global,
+    held: &mut HandleContent,
+    object: u32,
+    from: i64,
+    pairs: &mut [PairOut],
+    count: &mut usize,
+) -> Result<(), Status>
+    requires { IsFull held.old }
+    ensures full { IsFull held.new }
+    ensures walked { OfWorker (HasWalked object from pairs.old pairs.new count.new) held.old result held.new }
+    ensures kept { OnErr result (count.new ≡ count.old) }
+    ensures untouched { IsNoWorker held.old → pairs.new ≡ pairs.old }
+{
+    match held {
+        HandleContent::Nothing => Err(Status::Empty),
+        HandleContent::Store(_) | HandleContent::Closed(_) => Err(Status::OtherHandle),
+        HandleContent::Worker(worker) => walking::walk(alloc, worker, object, from, pairs, count),
     }
 }
 

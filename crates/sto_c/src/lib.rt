@@ -27,10 +27,13 @@ ghost use Rattle.sto_c.specs.Steps.{
   HasToldPairs,
   HasToldLeft,
   HasToldRows,
+  IsNoWorker,
 };
+ghost use Rattle.sto_c.specs.Walks.{HasWalked};
 ghost use Rattle.sto_c.specs.Whole.{HasRunWhole};
 
 mod calls;
+mod checking;
 mod content;
 mod crossing;
 mod handle;
@@ -40,6 +43,7 @@ mod loose;
 mod opening;
 mod status;
 mod telling;
+mod walking;
 
 use crossing::{CallIn, PairOut, ReplyOut, RowOut, ShapeIn};
 use handle::Handle;
@@ -141,6 +145,23 @@ pub extern "C" fn sto_pairs(
         (held worker.new) × IfErr done (λ why. why ≢ NoRoom → (pairs.new ≡ pairs.old) × (count.new ≡ count.old))) }
 {
     number_of(handles::pairs(alloc, worker, pairs, count))
+}
+
+/// Copies the next pairs of a tree.
+#[unsafe(no_mangle)]
+pub extern "C" fn sto_walk(
+    alloc: Global,
+    worker: &mut Handle,
+    object: u32,
+    from: i64,
+    pairs: &mut [PairOut],
+    count: &mut usize,
+) -> u32
+    ensures walked { Answers result (λ done. OfWorker (HasWalked object from pairs.old pairs.new count.new) (held worker.old) done
+        (held worker.new) × OnErr done (count.new ≡ count.old)) }
+    ensures untouched { IsNoWorker (held worker.old) → pairs.new ≡ pairs.old }
+{
+    number_of(handles::walk(alloc, worker, object, from, pairs, count))
 }
 
 /// Commits the transaction.

@@ -1,10 +1,12 @@
 //! A store is opened and closed, and its workers are given out.
-ghost use Rattle.std.specs.Prelude.{◌≡◌, Some, map, IfOk, IfErr};
+ghost use Rattle.std.specs.Prelude.{◌≡◌, ◌<◌, ◌≤◌, ◌+◌, ◌^◌, IfOk, IfErr};
 ghost use Rattle.sto_c.specs.declared.content.HandleContent.TheVariants.{Store};
 ghost use Rattle.sto_c.specs.Content.{IsHeld, IsStore, IsWorker};
-ghost use Rattle.sto_c.specs.Crossing.{shape_in};
+ghost use Rattle.sto_model.specs.Sizes.{rank};
 ghost use Rattle.sto_c.specs.Stores.{
   HasShapes,
+  ArePlanned,
+  AreScalars,
   IsUnplanned,
   IsUnopened,
   IsSameStore,
@@ -14,27 +16,44 @@ ghost use Rattle.sto_c.specs.Stores.{
   HasClosedStore,
 };
 
-use crate::content::{HandleContent, StoreHandle, WorkerHandle};
+use crate::content::{HandleContent, ObjectCounts, StoreHandle, WorkerHandle};
 use crate::crossing::ShapeIn;
 use crate::status::Status;
 use crate::telling::all_rows;
 use std::alloc::Global;
+use sto_model::Shape;
 use sto_part::NoMemory;
 use sto_shared_store::{HireError, ObjectPlan, OwnedCloseError, OwnedStore};
 
-// The plan of these objects.
-fn plan_of(alloc: Global, shapes: &[ShapeIn]) -> Result<ObjectPlan, Status>
-    ensures plan { IfOk result (λ plan. map shape_in shapes.now ≡ map Some plan) }
+// How many scalars there are with one more object.
+fn count_scalar(scalars: u32, shape: &Shape) -> u32
+    requires { scalars + 1 < 2 ^ 32 }
+    ensures scalar { rank shape.now < 2 → result ≡ scalars + 1 }
+    ensures other { 2 ≤ rank shape.now → result ≡ scalars }
+{
+    if shape.rank() < 2 {
+        scalars + 1
+    } else {
+        scalars
+    }
+}
+
+// The plan of these objects, and how many of them are scalars.
+fn plan_of(alloc: Global, shapes: &[ShapeIn]) -> Result<(ObjectPlan, u32), Status>
+    ensures plan { IfOk result (λ x. ArePlanned shapes.now x.0) }
+    ensures scalars { IfOk result (λ x. AreScalars x.1 x.0) }
     ensures refused { IfErr result (λ why. IsUnplanned shapes.now why) }
 {
     let mut plan = ObjectPlan::new(alloc);
+    let mut scalars = 0;
     for given in shapes {
         let Some(shape) = given.shape() else {
             return Err(Status::BadKind);
         };
         plan.add(shape)?;
+        scalars = count_scalar(scalars, &shape);
     }
-    Ok(plan)
+    Ok((plan, scalars))
 }
 
 /// Opens a store of these objects, for so many workers.
@@ -43,8 +62,11 @@ pub(crate) fn open(alloc: Global, shapes: &[ShapeIn], workers: u32) -> Result<St
     ensures shapes { IfOk result (HasShapes shapes.now workers) }
     ensures unopened { IfErr result (IsUnopened shapes.now workers) }
 {
-    let plan = plan_of(alloc, shapes)?;
-    let objects = plan.len();
+    let (plan, scalars) = plan_of(alloc, shapes)?;
+    let objects = ObjectCounts {
+        all: plan.len(),
+        scalars,
+    };
     let opened = plan.open(alloc, workers)?;
     match OwnedStore::new(alloc, opened) {
         Ok(store) => Ok(StoreHandle { store, objects }),

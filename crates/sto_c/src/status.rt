@@ -1,7 +1,8 @@
 //! What a function answers, as include/sto.h has it.
 ghost use Rattle.std.specs.Prelude.{◌≡◌};
-ghost use Rattle.sto_c.specs.Statuses.{number, number_of, of_unplanned, of_unopened};
+ghost use Rattle.sto_c.specs.Statuses.{number, number_of, of_unplanned, of_unopened, of_unasked};
 
+use sto_interactive::AskError;
 use sto_shared_store::{OpenError, PlanError};
 
 /// Why a call was not done.
@@ -26,6 +27,7 @@ pub enum Status {
     TooMany,
     NoRoom,
     WorkersOut,
+    BadNumbers,
 }
 
 impl Status {
@@ -53,6 +55,7 @@ impl Status {
             Status::TooMany => 17,
             Status::NoRoom => 18,
             Status::WorkersOut => 19,
+            Status::BadNumbers => 20,
         }
     }
 }
@@ -87,6 +90,19 @@ impl From<OpenError> for Status {
         match error {
             OpenError::Workers => Status::BadWorkers,
             OpenError::NoMemory => Status::NoMemory,
+        }
+    }
+}
+
+impl From<AskError> for Status {
+    ghost from_gives = { λ error status. status ≡ of_unasked error };
+
+    fn from(error: AskError) -> Status {
+        match error {
+            AskError::NoTransaction => Status::NoTransaction,
+            AskError::Untaken => Status::NoCall,
+            AskError::Aborted => Status::Aborted,
+            AskError::NoMemory => Status::NoMemory,
         }
     }
 }

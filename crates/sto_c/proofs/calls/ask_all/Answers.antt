@@ -1,17 +1,16 @@
 -- Each call is told its reply, behind those before it.
-use Rattle.std.proofs.Common.{◌≡◌, ℕ, ◌+◌, ◌<◌, ◌++◌, ◌∷◌, [], List, length, take, drop, pos, Ok, refl, sym, ap, ◌∙◌, subst, arith, append_assoc}
+use Rattle.std.proofs.Common.{◌≡◌, ℕ, ◌+◌, ◌<◌, ◌++◌, ◌∷◌, [], List, length, take, drop, pos, refl, sym, ap, ◌∙◌, subst, arith, append_assoc}
 use Rattle.std.specs.Prelude.{slice_index_or, slice_set}
 use Rattle.std.proofs.Math.Seq.{take-length}
 use Rattle.std.proofs.lemmas.List.{take_more, take_more_set, drop-set-lt, length-take-le, length-set, take-append-drop}
 use Rattle.sto_c.specs.declared.crossing.CallIn.{CallIn}
 use Rattle.sto_c.specs.declared.crossing.ReplyOut.{ReplyOut}
-use Rattle.sto_c.specs.declared.content.WorkerHandle.{WorkerHandle}
 use Rattle.sto_c.specs.Whole.{HaveAsked}
 use Rattle.sto_c.proofs.Whole.{have_asked_more, have_asked_all}
 use Rattle.sto_c.proofs.calls.ask_all.Goals as goal
 
 abbrev no_call : CallIn
-no_call = record { object = 0; operation = 0; a = pos 0; b = pos 0 }
+no_call = record { object = 0; operation = 0; numbers = 0; unused = 0; a = pos 0; b = pos 0 }
 
 pub loop-at-init : goal.loop-at-init
 loop-at-init c = record { worker = c.requires.worker; store = (refl, refl); long = refl; asked = refl; behind = refl }

@@ -1,5 +1,5 @@
 -- A try that is not aborted ends the call; after eight aborted ones it is busy.
-use Rattle.std.proofs.Common.{rules, ◌≡◌, ℕ, ◌+◌, ◌≤◌, suc, length, refl, ◌∙◌, subst, arith, inl, inr}
+use Rattle.std.proofs.Common.{rules, ◌≡◌, ℕ, ◌+◌, suc, refl, ◌∙◌, subst, arith, inl, inr}
 use Rattle.sto_c.specs.declared.status.Status.{Status}
 use Rattle.sto_c.specs.Whole.{HaveAborted, HasFailedWhole}
 use Rattle.sto_c.proofs.calls.run.Goals as goal
