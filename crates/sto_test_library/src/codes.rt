@@ -299,6 +299,8 @@ pub(crate) struct Unwanted {
 pub(crate) struct GiveUp(pub(crate) BoxId);
 
 impl Action for GiveUp {
+    ghost use Rattle.sto_test_library.specs.declared.codes.Unwanted.{Unwanted};
+
     type Out = i64;
 
     type Reason = Unwanted;
