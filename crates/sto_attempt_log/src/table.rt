@@ -8,7 +8,10 @@ use crate::read_entry::ReadSet;
 use std::alloc::Global;
 use sto_model::Replies;
 use sto_part::PartWords;
-use sto_type::{AnswerPool, Cache};
+use sto_type::{Cache, Said};
+
+// Room for so many replies is made at once.
+const FEW: u32 = 6;
 
 /// What an attempt works on: what it has found out, the words that it reads, and the lists of its commit.
 ///
@@ -24,8 +27,8 @@ pub struct Table {
     pub cache: Cache,
     /// A list for the words of a part to which updates are applied. What stands in it is used no more.
     pub scratch: PartWords,
-    /// Lists for the answers of the type.
-    pub pool: AnswerPool,
+    /// What the call that the body asks says. Once it was taken in it is used no more.
+    pub said: Said,
     /// The words of the open read, in order.
     pub words: PartWords,
     /// The last extension, under way or done.
@@ -60,21 +63,23 @@ impl Table {
             base: ReadSet::new(alloc),
             cache: Cache::new(alloc),
             scratch: PartWords::new(alloc),
-            pool: AnswerPool::new(alloc),
+            said: Said::new(alloc),
             words: PartWords::new(alloc),
             extension: Extension::new(alloc),
             lists: Lists::new(alloc),
         }
     }
 
-    /// Clears it for the next attempt, which has found out nothing. The room of its lists stays.
+    /// Clears it for the next attempt, which has found out nothing and hears so many replies at most. The room of its lists stays.
     ///
     /// The lists of a commit are cleared where they are gathered.
     #[inline(always)]
-    pub fn clear(&mut self)
+    pub fn clear(&mut self, replies: u32)
         ensures { IsClear self.new }
     {
         self.replies.clear();
+        // Where there is no memory for it, none is lost: each reply that comes asks for its own.
+        let _ = self.replies.reserve(replies.min(FEW));
         self.set.clear();
         self.base.clear();
         self.cache.forget();
