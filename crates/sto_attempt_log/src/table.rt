@@ -46,7 +46,7 @@ impl Drop for Table {
             base: _base,
             cache: _cache,
             scratch: _scratch,
-            pool: _pool,
+            said: _said,
             words: _words,
             extension: _extension,
             lists: _lists,
