@@ -1,0 +1,14 @@
+use Rattle.std.proofs.Common.{[]}
+use Rattle.std.proofs.lemmas.Result.{IfOk-weaker}
+use Rattle.sto_model.specs.Objects.{compared}
+use Rattle.sto_model.specs.PlainReplies.{Flag}
+use Rattle.sto_counter.specs.Counted.{test_items}
+use Rattle.sto_counter.proofs.Saying.{said_unmoved}
+use Rattle.sto_counter.proofs.counter.test_answer.Goals as goal
+
+pub returns : goal.returns
+returns c =
+    let t = c.args.test in
+    let k = c.args.bound in
+    let x = c.args.value in
+    IfOk-weaker c.tested.result _ _ (λ a said. said_unmoved (Flag (compared t x k)) (test_items t k x) [] a said) c.tested.ensures
