@@ -45,6 +45,9 @@ There (Some x) = Unit {0}
 pub never_both : {X : Type 0} (o : Option X) (x : X) → o ≡ None → o ≡ Some x → ⊥
 never_both o x none some = subst (λ (p : Option _). There p) (sym some ∙ none) tt
 
+pub same_one : {X : Type 0} (o : Option X) (x y : X) → o ≡ Some x → o ≡ Some y → x ≡ y
+same_one o x y e f = cc
+
 -- what a call tells that was not answered, by why it was not
 pub stopped : {T : Type 0} (t : OfType T) (k : ℕ) (ty : T) (calls : List Call) (rs : List PlainReply) (call : Call) (old new : Live T) (begun v w : View) (e x : StepError) → e ≡ x
     → lives.HasAsked t k ty calls rs call (Err e) old new begun v w → lives.HasAsked t k ty calls rs call (Err x) old new begun v w

@@ -43,7 +43,7 @@ give-requires g c =
     let free : live_of x ≡ None = not_some (live_of x) (sym told ∙ c.if-is_in_transaction.false) in
     let at : IsAt t s v (Some x) = subst (λ (o : Option (Session g.row.T.Denot g.T.Naming)). IsAt t s v o) c.in-Some.is c.requires.at in
     comes_back t s v c.deref.result.now x _ (ap (λ (h : Hired g.row.T.Denot g.T.Naming). arc_value h.store) c.deref.ensures ∙ c.requires.home)
-    (ap (λ (h : Hired g.row.T.Denot g.T.Naming). h.worker.rest.seat.me.0.view) c.deref.ensures) c.idle_of-worker.ensures.0 free at
+    (ap (λ (h : Hired g.row.T.Denot g.T.Naming). h.worker.rest.seat.me.0.view) c.deref.ensures) c.idle_of-worker.ensures.worker.0 free at
 
 pub returns-in-Ok-clause-free : goal.returns-in-Ok-clause-free
 returns-in-Ok-clause-free g c =
@@ -61,12 +61,12 @@ returns-in-Err-clause-worker g c =
     let told : c.is_in_transaction.result ≡ is_some (live_of x) =
     subst (λ (o : Option (Session g.row.T.Denot g.T.Naming)). IfSome o (λ z. c.is_in_transaction.result ≡ is_some (live_of z))) c.in-Some.is c.is_in_transaction.ensures in
     let free : live_of x ≡ None = not_some (live_of x) (sym told ∙ c.if-is_in_transaction.false) in
-    let rest : y.rest ≡ x.rest = c.new.ensures.rest ∙ ap (λ (w : CountedRest g.row.T.Denot g.T.Naming). w.rest) c.in-Err.ensures ∙ c.idle_of-worker.ensures.0 in
-    let left : y.left ≡ x.left = c.new.ensures.left ∙ ap (λ (w : CountedRest g.row.T.Denot g.T.Naming). w.left) c.in-Err.ensures ∙ c.idle_of-worker.ensures.1 in
+    let rest : y.rest ≡ x.rest = c.new.ensures.rest ∙ ap (λ (w : CountedRest g.row.T.Denot g.T.Naming). w.rest) c.in-Err.ensures ∙ c.idle_of-worker.ensures.worker.0 in
+    let left : y.left ≡ x.left = c.new.ensures.left ∙ ap (λ (w : CountedRest g.row.T.Denot g.T.Naming). w.left) c.in-Err.ensures ∙ c.idle_of-worker.ensures.worker.1 in
     let v = view_at c.args.self.slot in
     let at : IsAt t s v (Some x) = subst (λ (o : Option (Session g.row.T.Denot g.T.Naming)). IsAt t s v o) c.in-Some.is c.requires.at in
     record {
-      at = unchanged_since t s v x y (rest, left, c.new.ensures.free ∙ sym free) at;
+      at = unchanged_since t s v x y (rest, left, rw (c.new.ensures.room, c.idle_of-worker.ensures.room) refl) at;
       home = c.requires.home;
     }
 
@@ -77,10 +77,10 @@ returns-in-Err-clause-out g c =
     let told : c.is_in_transaction.result ≡ is_some (live_of x) =
     subst (λ (o : Option (Session g.row.T.Denot g.T.Naming)). IfSome o (λ z. c.is_in_transaction.result ≡ is_some (live_of z))) c.in-Some.is c.is_in_transaction.ensures in
     let free : live_of x ≡ None = not_some (live_of x) (sym told ∙ c.if-is_in_transaction.false) in
-    let rest : y.rest ≡ x.rest = c.new.ensures.rest ∙ ap (λ (w : CountedRest g.row.T.Denot g.T.Naming). w.rest) c.in-Err.ensures ∙ c.idle_of-worker.ensures.0 in
-    let left : y.left ≡ x.left = c.new.ensures.left ∙ ap (λ (w : CountedRest g.row.T.Denot g.T.Naming). w.left) c.in-Err.ensures ∙ c.idle_of-worker.ensures.1 in (
+    let rest : y.rest ≡ x.rest = c.new.ensures.rest ∙ ap (λ (w : CountedRest g.row.T.Denot g.T.Naming). w.rest) c.in-Err.ensures ∙ c.idle_of-worker.ensures.worker.0 in
+    let left : y.left ≡ x.left = c.new.ensures.left ∙ ap (λ (w : CountedRest g.row.T.Denot g.T.Naming). w.left) c.in-Err.ensures ∙ c.idle_of-worker.ensures.worker.1 in (
       refl,
       refl,
-      subst (λ (o : Option (Session g.row.T.Denot g.T.Naming)). Leads IsUnchanged o (Some y)) (sym c.in-Some.is) (rest, left, c.new.ensures.free ∙ sym free),
+      subst (λ (o : Option (Session g.row.T.Denot g.T.Naming)). Leads IsUnchanged o (Some y)) (sym c.in-Some.is) (rest, left, rw (c.new.ensures.room, c.idle_of-worker.ensures.room) refl),
       subst (λ (o : Option (Session g.row.T.Denot g.T.Naming)). IfSome o (λ z. live_of z ≡ None)) (sym c.in-Some.is) free,
     )
