@@ -42,9 +42,9 @@ impl<'t, T: TxType, B: Body> Attempt<'t, T, B> {
         let mut body = body;
         body.reset();
         // so many replies at most: they fit a list
-        let replies = body.left();
+        let _left = body.left();
         let mut table = table;
-        table.clear(replies);
+        table.clear();
         Attempt {
             log: Log { ty, body, table },
             at: 0,

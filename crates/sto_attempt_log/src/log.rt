@@ -11,6 +11,9 @@ use sto_model::{Body, Next, Reply};
 use sto_part::NoMemory;
 use sto_type::TxType;
 
+// Room is made for so many further replies at most.
+const FEW: u32 = 5;
+
 /// Where a body has come to.
 #[derive(Clone, Copy)]
 pub enum Reached {
@@ -82,7 +85,10 @@ impl<T: TxType, B: Body> Log<'_, T, B> {
         )?;
         let reply = mem::replace(&mut self.table.said.reply, Reply::Done);
         self.body.hear(&reply);
-        self.table.replies.push(reply)?;
+        // room for this reply, and at once for a few that may come
+        let more = 1 + self.body.left().min(FEW);
+        self.table.replies.reserve(more)?;
+        self.table.replies.push_spare(reply);
         Ok(())
     }
 }

@@ -10,9 +10,6 @@ use sto_model::Replies;
 use sto_part::PartWords;
 use sto_type::{Cache, Said};
 
-// Room for so many replies is made at once.
-const FEW: u32 = 6;
-
 /// What an attempt works on: what it has found out, the words that it reads, and the lists of its commit.
 ///
 /// A worker makes it once. Attempt after attempt works on its lists in place, so that their room stays, and it is never taken apart.
@@ -70,16 +67,14 @@ impl Table {
         }
     }
 
-    /// Clears it for the next attempt, which has found out nothing and hears so many replies at most. The room of its lists stays.
+    /// Clears it for the next attempt, which has found out nothing. The room of its lists stays.
     ///
     /// The lists of a commit are cleared where they are gathered.
     #[inline(always)]
-    pub fn clear(&mut self, replies: u32)
+    pub fn clear(&mut self)
         ensures { IsClear self.new }
     {
         self.replies.clear();
-        // Where there is no memory for it, none is lost: each reply that comes asks for its own.
-        let _ = self.replies.reserve(replies.min(FEW));
         self.set.clear();
         self.base.clear();
         self.cache.forget();

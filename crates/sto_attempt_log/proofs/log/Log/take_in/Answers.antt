@@ -1,5 +1,6 @@
-use Rattle.std.proofs.Common.{arith, refl, ap, sym, subst, ◌∙◌, ◌≡◌, ◌++◌, ◌∷◌, [], length, map, append_assoc, append-nil, length-append, rules}
+use Rattle.std.proofs.Common.{arith, refl, ap, sym, subst, ◌∙◌, ◌≡◌, ◌++◌, ◌∷◌, [], List, length, map, append_assoc, append-nil, length-append, rules}
 use Rattle.std.proofs.lemmas.List.{map-append}
+use Rattle.sto_part.specs.Listed.{Listed}
 use Rattle.sto_model.specs.PlainReplies.{plain_reply}
 use Rattle.sto_model.specs.declared.reply.Reply.{Reply}
 use Rattle.sto_model.specs.Run.{IsAsk}
@@ -48,6 +49,9 @@ hear-requires g c =
     let rs = map plain_reply c.args.self.now.table.replies.items in
     subst IsAsk (sym (was.then [] ∙ ap f (append-nil rs) ∙ c.requires.says.asks)) tt
 
+pub push_spare-requires-clause-few : goal.push_spare-requires-clause-few
+push_spare-requires-clause-few g c = omega (arith, c.requires.log.few, c.hear.ensures.left, ap length c.in_ok-reserve.ensures.items)
+
 pub returns : goal.returns
 returns g c =
     let m = g.T.TxType.meaning c.args.self.now.ty.now in
@@ -60,8 +64,10 @@ returns g c =
     let rs = map plain_reply c.args.self.now.table.replies.items in
     let reply = c.replace-reply.result in
     let same : reply ≡ said.reply = c.replace-reply.ensures.value in
-    let more : map plain_reply c.push.new.self.items ≡ rs ++ plain_reply said.reply ∷ [] =
-    ap (map plain_reply) c.in_ok-push.ensures.ok ∙ map-append plain_reply c.args.self.now.table.replies.items (reply ∷ []) ∙ ap (λ (r : Reply). rs ++ plain_reply r ∷ []) same in
+    let longer : c.push_spare.new.self.items ≡ c.args.self.now.table.replies.items ++ reply ∷ [] =
+    ap (λ (l : Listed Reply). l.items) c.push_spare.ensures ∙ ap (λ (l : List Reply). l ++ reply ∷ []) c.in_ok-reserve.ensures.items in
+    let more : map plain_reply c.push_spare.new.self.items ≡ rs ++ plain_reply said.reply ∷ [] =
+    ap (map plain_reply) longer ∙ map-append plain_reply c.args.self.now.table.replies.items (reply ∷ []) ∙ ap (λ (r : Reply). rs ++ plain_reply r ∷ []) same in
     let next =
     log_next m law f base c.args.self.now.table.set rs says.call (known c.args.self.now.table.cache) was.log was.known_above c.requires.some says.taken says.asks (plain_reply said.reply) said.items.items said.updates.items says.plan c.in_ok-add_updates.ensures.ordered
     (rebased c.args.self.now.table.set.updates said.items.items) refl c.add_items.new.set c.add_updates.new.set c.in_ok-add_items.ensures c.in_ok-add_updates.ensures.ok in
@@ -69,7 +75,7 @@ returns g c =
       log = record {
         then = λ xs. c.hear.ensures.then xs ∙ ap (λ (r : Reply). g.B.Body.then c.args.self.now.body (plain_reply r ∷ xs)) same ∙ was.then (plain_reply said.reply ∷ xs) ∙ ap f (sym (append_assoc rs (plain_reply said.reply ∷ []) xs) ∙ ap (λ l. l ++ xs) (sym more));
         taken = λ call h. was.taken call (c.hear.ensures.may call h);
-        few = omega (arith, was.few, c.hear.ensures.left, ap length c.in_ok-push.ensures.ok, length-append c.args.self.now.table.replies.items (reply ∷ []));
+        few = omega (arith, was.few, c.hear.ensures.left, ap length longer, length-append c.args.self.now.table.replies.items (reply ∷ []));
         log = rw more next;
         known_above = c.in_ok-refresh.ensures;
       };
@@ -85,7 +91,7 @@ returns g c =
           (c.in_ok-add_updates.ensures.ok ∙ (λ i. record { items = c.add_items.new.set.items; updates = with_updates (kept i) said.updates.items })));
       fewer = search rules;
       kept = search rules;
-      left = omega (arith, c.hear.ensures.left, ap length c.in_ok-push.ensures.ok, length-append c.args.self.now.table.replies.items (reply ∷ []));
+      left = omega (arith, c.hear.ensures.left, ap length longer, length-append c.args.self.now.table.replies.items (reply ∷ []));
       script = search rules;
       left_at_reset = search rules;
       may = search rules;
