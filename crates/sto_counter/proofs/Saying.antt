@@ -27,11 +27,11 @@ said_same t is js es fs (Need p) h i e = absurd h
 said_same t is js es fs (Done reply items updates) h i e = (h.0, h.1 ∙ i, h.2 ∙ e)
 
 -- what an answer says of part 0 is said of its own part
-items_of : Plan → List Item
+abbrev items_of : Plan → List Item
 items_of (Ask p) = []
 items_of (Say t is es) = is
 
-updates_of : Plan → List Entry
+abbrev updates_of : Plan → List Entry
 updates_of (Ask p) = []
 updates_of (Say t is es) = es
 

@@ -1,4 +1,6 @@
-use Rattle.std.proofs.Common.{[]}
+use Rattle.std.proofs.Common.{[], rules, FitsSigned}
+use Rattle.std.specs.Int.{w64}
+use Rattle.std.proofs.lemmas.Int.{to_z-of_z}
 use Rattle.std.proofs.lemmas.Result.{IfOk-weaker}
 use Rattle.sto_model.specs.Objects.{compared}
 use Rattle.sto_model.specs.PlainReplies.{Flag}
@@ -11,4 +13,7 @@ returns c =
     let t = c.args.test in
     let k = c.args.bound in
     let x = c.args.value in
-    IfOk-weaker c.tested.result _ _ (λ a said. said_unmoved (Flag (compared t x k)) (test_items t k x) [] a said) c.tested.ensures
+    let f : FitsSigned w64 c.args.value = search rules in
+    let g : FitsSigned w64 c.args.bound = search rules in
+    let done = simp to_z-of_z at c.tested.ensures in
+    IfOk-weaker c.tested.result _ _ (λ a said. said_unmoved (Flag (compared t x k)) (test_items t k x) [] a said) done

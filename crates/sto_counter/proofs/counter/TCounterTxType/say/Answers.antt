@@ -17,8 +17,8 @@ returns-in-None c =
     let same = none_more c.args.first in
     record { own = Ask 0; is = ap asked (ap k same ∙ c.in-None.ensures); moved = ap Ask (sym same) }
 
-pub returns-in_ok-answer : goal.returns-in_ok-answer
-returns-in_ok-answer c =
+pub returns-in_ok-answer-in-Some : goal.returns-in_ok-answer-in-Some
+returns-in_ok-answer-in-Some c =
     let first = c.args.self.now.first in
     let m = counter_meaning first in
     let call = c.args.call.now in
@@ -27,8 +27,8 @@ returns-in_ok-answer c =
     let ws = c.in-Some.words.now in
     let x = slice_index_or ws 0 (pos 0) in
     let f : FitsSigned w64 (slice_index_or c.in-Some.words.now 0 (pos 0)) = search rules in
-    let done = simp to_z-of_z at c.in_ok-answer.ensures in
+    let done = simp to_z-of_z at c.in_ok-answer-in-Some.ensures in
     let here = ap k (none_more p) ∙ c.in-Some.ensures in
     subst (IsSaidFrom m p call k) (sym c.pour.ensures)
-    (said_from m call k p (effect_of (Counter (pos 0)) call.operation call.a call.b (only_row x)).reply (counter_items call.operation call.a call.b x) (counter_updates call.operation call.a x) c.in_ok-answer.answer done
+    (said_from m call k p (effect_of (Counter (pos 0)) call.operation call.a call.b (only_row x)).reply (counter_items call.operation call.a call.b x) (counter_updates call.operation call.a x) c.in_ok-answer-in-Some.answer done
     (λ own said. known_plan first call (beyond p k) ws own c.requires.takes here said))
