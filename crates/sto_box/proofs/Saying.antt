@@ -58,14 +58,14 @@ set_plan :
     → IsPlan (box_meaning n C vs) call k (Say Done [] ((0, map Put (call_words n call)) ∷ []))
 set_plan n C bounds vs k =
     by_call n C (λ (x : Call). (x.operation ≡ Get → ⊥) → IsPlan (box_meaning n C vs) x k (Say Done [] ((0, map Put (call_words n x)) ∷ [])))
-    (λ a b no. absurd (no refl))
-    (λ a b t no. (refl, refl, λ d v part. (set_replies n bounds vs a b (keyed 0 (part_of d 0)), refl)))
+    (λ a b other. absurd (other refl))
+    (λ a b t other. (refl, refl, λ d v part. (set_replies n bounds vs a b (keyed 0 (part_of d 0)), refl)))
 
 -- a set puts the words of its value
 pub said_set :
     (n : ℕ) (C : List ℤ → Type 0) (bounds : (1 ≤ n) × (n ≤ 2)) (vs : List ℤ) (call : Call) (k : Known) (p : ℕ) (items : Listed Item) (updates : Listed Entry) → BoxTakes n C call
     → (call.operation ≡ Get → ⊥) → items.items ≡ [] → updates.items ≡ (p, map Put (call_words n call)) ∷ [] → IsSaidFrom (box_meaning n C vs) p call k (Say Done items.items updates.items)
-said_set n C bounds vs call k p items updates t no none puts =
+said_set n C bounds vs call k p items updates t other none puts =
     let ws : List Change = map Put (call_words n call) in
     let more : updates.items ≡ (p + 0, ws) ∷ [] = puts ∙ ap (λ (q : ℕ). (q, ws) ∷ []) (sym (none_more p)) in
-    record { own = Say Done [] ((0, ws) ∷ []); is = set_plan n C bounds vs (beyond p k) call t no; moved = λ j. Say Done (none j) (more j) }
+    record { own = Say Done [] ((0, ws) ∷ []); is = set_plan n C bounds vs (beyond p k) call t other; moved = λ j. Say Done (none j) (more j) }

@@ -10,23 +10,23 @@ returns-in-None g c =
     let vs = take g.W.Words.WORDS (c.args.self.now.first ∷ c.args.self.now.second ∷ []) in
     said_need g.W.Words.WORDS g.W.Words.IsCode vs c.args.call.now (known c.args.cache.now) c.args.first c.in-Get.is c.in-None.ensures
 
-pub returns-in_ok-items : goal.returns-in_ok-items
-returns-in_ok-items g c =
+pub returns-in_ok-items-in-Some : goal.returns-in_ok-items-in-Some
+returns-in_ok-items-in-Some g c =
     let n = g.W.Words.WORDS in
     let call = c.args.call.now in
     let k = known c.args.cache.now in
     let p = c.args.first in
     let vs = take n (c.args.self.now.first ∷ c.args.self.now.second ∷ []) in
     subst (IsSaidFrom (box_meaning n g.W.Words.IsCode vs) p call k) (sym c.pour.ensures)
-    (said_known n g.W.Words.IsCode vs call k p g.met.W.Words.one_or_two c.in-Some.words.now c.in_ok-reply.reply c.in_ok-items.items c.updates-updates.result c.requires.takes.object c.requires.takes.third c.in-Get.is
-    c.in-Some.ensures c.in_ok-reply.ensures c.in_ok-items.ensures c.updates-updates.ensures)
+    (said_known n g.W.Words.IsCode vs call k p g.met.W.Words.one_or_two c.in-Some.words.now c.in_ok-reply-in-Some.reply c.in_ok-items-in-Some.items c.updates-updates.result c.requires.takes.object c.requires.takes.third c.in-Get.is
+    c.in-Some.ensures c.in_ok-reply-in-Some.ensures c.in_ok-items-in-Some.ensures c.updates-updates.ensures)
 
-pub returns-in_ok-updates : goal.returns-in_ok-updates
-returns-in_ok-updates g c =
+pub returns-in_ok-updates-in_default : goal.returns-in_ok-updates-in_default
+returns-in_ok-updates-in_default g c =
     let n = g.W.Words.WORDS in
     let call = c.args.call.now in
     let k = known c.args.cache.now in
     let p = c.args.first in
     let vs = take n (c.args.self.now.first ∷ c.args.self.now.second ∷ []) in
-    subst (IsSaidFrom (box_meaning n g.W.Words.IsCode vs) p call k) (sym c.pour.ensures)
-    (said_set n g.W.Words.IsCode g.met.W.Words.one_or_two vs call k p c.items-items.result c.in_ok-updates.updates c.requires.takes c.in_default.not-Get c.items-items.ensures c.in_ok-updates.ensures)
+    subst (IsSaidFrom (box_meaning n g.W.Words.IsCode vs) p call k) (sym c.pour-in_default.ensures)
+    (said_set n g.W.Words.IsCode g.met.W.Words.one_or_two vs call k p c.items-items.result c.in_ok-updates-in_default.updates c.requires.takes c.in_default.not-Get c.items-items.ensures c.in_ok-updates-in_default.ensures)
