@@ -1,4 +1,5 @@
 use Rattle.std.proofs.Common.{◌∷◌, [], sym, subst, take}
+use Rattle.std.proofs.lemmas.Int.{to_z-of_z}
 use Rattle.sto_type.specs.Known.{known}
 use Rattle.sto_type.specs.Saying.{IsSaidFrom}
 use Rattle.sto_box.specs.Boxed.{box_meaning}
@@ -23,10 +24,13 @@ returns-in_ok-items-in-Some g c =
 
 pub returns-in_ok-updates-in_default : goal.returns-in_ok-updates-in_default
 returns-in_ok-updates-in_default g c =
+    let f = c.requires.takes.fits in
+    let h = c.requires.takes.fits_too in
+    let puts = simp to_z-of_z at c.in_ok-updates-in_default.ensures in
     let n = g.W.Words.WORDS in
     let call = c.args.call.now in
     let k = known c.args.cache.now in
     let p = c.args.first in
     let vs = take n (c.args.self.now.first ∷ c.args.self.now.second ∷ []) in
     subst (IsSaidFrom (box_meaning n g.W.Words.IsCode vs) p call k) (sym c.pour-in_default.ensures)
-    (said_set n g.W.Words.IsCode g.met.W.Words.one_or_two vs call k p c.items-items.result c.in_ok-updates-in_default.updates c.requires.takes c.in_default.not-Get c.items-items.ensures c.in_ok-updates-in_default.ensures)
+    (said_set n g.W.Words.IsCode g.met.W.Words.one_or_two vs call k p c.items-items.result c.in_ok-updates-in_default.updates c.requires.takes c.in_default.not-Get c.items-items.ensures puts)
