@@ -26,7 +26,8 @@ pub returns-in_ok-updates-in_default : goal.returns-in_ok-updates-in_default
 returns-in_ok-updates-in_default g c =
     let f = c.requires.takes.fits in
     let h = c.requires.takes.fits_too in
-    let puts = simp to_z-of_z at c.in_ok-updates-in_default.ensures in
+    let raw = simp to_z-of_z at c.in_ok-updates-in_default.ensures in
+    let puts = rw c.WORDS.ensures at raw in
     let n = g.W.Words.WORDS in
     let call = c.args.call.now in
     let k = known c.args.cache.now in
