@@ -1,0 +1,45 @@
+//! A script with the schedule of words in the place of its own.
+ghost use Rattle.std.specs.Prelude.{◌≡◌, Ok, IfOk, IfErr};
+ghost use Rattle.sto_console.specs.declared.refusal.InputFault.{InputFault as Fault};
+ghost use Rattle.sto_lang.specs.Sound.{IsSound};
+ghost use Rattle.sto_lang.specs.Views.{file as view};
+ghost use Rattle.sto_schedule.specs.Schedules.{with_schedule};
+ghost use Rattle.sto_cli.specs.Schedules.{IsScheduled, IsScheduledFault, IsUnscheduled};
+ghost use Rattle.sto_cli.specs.Traces.{IsRefusalFor};
+
+use std::alloc::Global;
+use sto_args::GivenText;
+use sto_console::{InputFault, Refusal, file_in};
+use sto_lang::File;
+use sto_schedule::{ScheduleError, with_schedule};
+
+// A file with the schedule that words are.
+fn scheduled(alloc: Global, file: File, words: &[u8]) -> Result<File, Refusal>
+    requires { IsSound (view file) }
+    ensures file { IfOk result (λ f. with_schedule (view file) words.now ≡ Ok (view f)) }
+    ensures sound { IfOk result (λ f. IsSound (view f)) }
+    ensures fault { IfErr result (λ e. IsRefusalFor (IsUnscheduled words.now (view file)) e) }
+{
+    match with_schedule(alloc, file, words) {
+        Ok(file) => Ok(file),
+        Err(ScheduleError::Fault(kind)) => Err(Refusal::Input(InputFault::Schedule(kind))),
+        Err(ScheduleError::NoMemory) => Err(Refusal::NoMemory),
+    }
+}
+
+/// The script that these bytes are, with the schedule of the words in the place of its own, where there are words.
+pub(crate) fn scheduled_in(
+    alloc: Global,
+    bytes: &[u8],
+    schedule: &Option<GivenText>,
+) -> Result<File, Refusal>
+    ensures file { IfOk result (λ file. IsScheduled schedule.now bytes.now (view file)) }
+    ensures sound { IfOk result (λ file. IsSound (view file)) }
+    ensures fault { IfErr result (λ e. IsRefusalFor (IsScheduledFault schedule.now bytes.now) e) }
+{
+    let file = file_in(alloc, bytes)?;
+    match schedule {
+        None => Ok(file),
+        Some(words) => scheduled(alloc, file, words.as_bytes()),
+    }
+}

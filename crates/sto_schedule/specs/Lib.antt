@@ -1,0 +1,4 @@
+pub mod Schedules
+pub use Rattle.sto_syntax.specs.Views as Words
+pub use Rattle.sto_lang.specs.Sound
+pub use Rattle.sto_lang.specs.Views

@@ -1,0 +1,7 @@
+//! A schedule that stands in words, beside a file.
+#![tactic(auto)]
+
+mod entry;
+mod read;
+
+pub use read::{ScheduleError, with_schedule};
