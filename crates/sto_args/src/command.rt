@@ -250,11 +250,13 @@ fn step(alloc: Global, words: &[&str]) -> Result<Option<Command>, NoMemory>
     ensures command { IfOk result (λ c. c ≡ option_and_then step_of (given_by step_takes (map (λ word. word.now) words.now))) }
 {
     match stepping_from(alloc, words)? {
-        Some(Stepping {
-            tries,
-            json,
-            schedule,
-        }) => Ok(Some(Command::Step {
+        Some(
+            Stepping {
+                tries,
+                json,
+                schedule,
+            },
+        ) => Ok(Some(Command::Step {
             tries,
             json,
             schedule,
@@ -269,11 +271,13 @@ fn trace(alloc: Global, words: &[&str]) -> Result<Option<Command>, NoMemory>
     ensures command { IfOk result (λ c. c ≡ option_and_then trace_of (given_by step_takes (map (λ word. word.now) words.now))) }
 {
     match stepping_from(alloc, words)? {
-        Some(Stepping {
-            tries,
-            json,
-            schedule,
-        }) => Ok(Some(Command::Trace {
+        Some(
+            Stepping {
+                tries,
+                json,
+                schedule,
+            },
+        ) => Ok(Some(Command::Trace {
             tries,
             json,
             schedule,

@@ -24,8 +24,7 @@ use sto_lang::File;
 use sto_part::NoMemory;
 use sto_question::{Question, QuestionError, read_question};
 use sto_run_orders::{
-    Asking, OrderReport, OrdersError, SameBy, asked_text, explore_orders, reports_text,
-    those_asked,
+    Asking, OrderReport, OrdersError, SameBy, asked_text, explore_orders, reports_text, those_asked,
 };
 
 // What outcomes are told apart by.

@@ -174,9 +174,7 @@ fn told_for<R: Threads + Sync, S: Source, G: Gate, W: Meter>(
             threads,
             tries,
             json,
-        } => Ok(done(run_source(
-            rt, alloc, source, threads, tries, json, gate,
-        )?)),
+        } => Ok(done(run_source(rt, alloc, source, threads, tries, json, gate)?)),
         Command::Step {
             tries,
             json,
@@ -200,9 +198,7 @@ fn told_for<R: Threads + Sync, S: Source, G: Gate, W: Meter>(
             switches,
             tries,
             json,
-        } => Ok(done(schedules_source(
-            alloc, source, switches, tries, json, meter,
-        )?)),
+        } => Ok(done(schedules_source(alloc, source, switches, tries, json, meter)?)),
         Command::Upgrade => Ok(done(upgrade_source(alloc, source)?)),
         Command::Gen { number } => Ok(done(gen_text(alloc, number)?)),
         Command::Bench { number, threads } => {

@@ -113,7 +113,10 @@ impl Draft {
         ensures cause { IfErr result (IsFault (with_test (draft_of self) (draft_of self).left test)) }
     {
         let Draft {
-            whole, left, terms, ..
+            whole,
+            left,
+            terms,
+            ..
         } = self;
         match left {
             None => Ok(Draft {
@@ -157,7 +160,10 @@ impl Draft {
         ensures { draft_of result ≡ record (draft_of self) { sign = sign } }
     {
         let Draft {
-            whole, left, terms, ..
+            whole,
+            left,
+            terms,
+            ..
         } = self;
         Draft {
             whole,

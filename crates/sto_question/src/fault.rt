@@ -1,6 +1,6 @@
 //! Why words are no question.
 ghost use Rattle.std.specs.Prelude.{◌≡◌, Some};
-ghost use Rattle.sto_question.specs.FaultTexts.{fault_text};
+ghost use Rattle.sto_question.specs.FaultTexts.{fault_text, question_error_text};
 ghost use Rattle.sto_question.specs.declared.fault.QuestionError.TheVariants.{NoMemory};
 
 use std::alloc::AllocError;
@@ -37,6 +37,17 @@ impl fmt::Display for QuestionFault {
 pub enum QuestionError {
     Fault(QuestionFault),
     NoMemory,
+}
+
+impl fmt::Display for QuestionError {
+    ghost output = { λ error. Some (question_error_text error) };
+
+    fn fmt<W: fmt::Write>(&self, f: &mut fmt::Formatter<W>) -> fmt::Result {
+        match self {
+            QuestionError::Fault(fault) => write!(f, "{fault}"),
+            QuestionError::NoMemory => write!(f, "out of memory"),
+        }
+    }
 }
 
 impl From<sto_part::NoMemory> for QuestionError {

@@ -7,9 +7,7 @@ ghost use Rattle.sto_run_orders.specs.Texts.{heading, report_text, schedule_line
 
 use crate::asked::Asking;
 use crate::report::OrderReport;
-use crate::words::{
-    all_orders, has_schedule, push_asking, push_count, push_number, push_schedule,
-};
+use crate::words::{all_orders, has_schedule, push_asking, push_count, push_number, push_schedule};
 use sto_lang::{File, Text};
 use sto_part::NoMemory;
 

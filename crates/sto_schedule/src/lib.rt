@@ -1,6 +1,7 @@
 //! A schedule that stands in words, beside a file.
 #![tactic(auto)]
 
+mod display;
 mod entry;
 mod read;
 

@@ -30,11 +30,7 @@ impl From<NoMemory> for ScheduleError {
 
 #[tactic(auto, using(sto_lang::proofs::ThreadLemmas::turns_in_range))]
 // The entries as those of a schedule of a file.
-fn schedule_in(
-    alloc: Global,
-    file: &File,
-    entries: Entries<'_>,
-) -> Result<Schedule, ScheduleError>
+fn schedule_in(alloc: Global, file: &File, entries: Entries<'_>) -> Result<Schedule, ScheduleError>
     requires { IsSound (view file.now) }
     ensures schedule { IfOk result (λ s. entries_in (view file.now) (entries_of entries.entry) ≡ Ok s.items) }
     ensures cause { IfErr result (IsFault (entries_in (view file.now) (entries_of entries.entry))) }

@@ -1,7 +1,8 @@
 //! What `sto` does not print or tell.
-ghost use Rattle.std.specs.Prelude.{◌≡◌, ◌<◌, ℕ, List, [], ◌∷◌, Bool, true, false, Option, None, Some, Ok, Err};
+ghost use Rattle.std.specs.Prelude.{◌≡◌, ◌<◌, ℕ, List, [], ◌∷◌, Bool, true, false, Option, None, Some, Ok, Err, codes};
 ghost use Rattle.sto_lang.specs.Files.{file_of};
 ghost use Rattle.sto_lang.specs.Scripts.{File};
+ghost use Rattle.sto_lang.specs.declared.fault.FaultKind.{FaultKind};
 ghost use Rattle.sto_orders.specs.Causes.{least_told};
 ghost use Rattle.sto_args.specs.declared.command.Command.{Command};
 ghost use Rattle.sto_args.specs.declared.command.Command.TheVariants.{Run, Step, Trace, Draw, Explore, Schedules, Upgrade, Gen, Bench};
@@ -16,6 +17,9 @@ ghost use Rattle.sto_report_spec.specs.Lawful.{IsLawfulIn};
 ghost use Rattle.sto_run.specs.Meanings.{updating_by};
 ghost use Rattle.sto_run.specs.Stores.{means};
 ghost use Rattle.sto_run.specs.Forms.{form_for};
+ghost use Rattle.sto_run.specs.Traced.{turns_in};
+ghost use Rattle.sto_run.specs.Stepped.{IsStepReport};
+ghost use Rattle.sto_schedule.specs.Schedules.{with_schedule};
 ghost use Rattle.sto_orders.specs.declared.same_by.SameBy.{SameBy};
 ghost use Rattle.sto_question.specs.declared.fault.QuestionFault.{QuestionFault};
 ghost use Rattle.sto_question.specs.Questions.{Question, question_of};
@@ -73,6 +77,21 @@ pub fn not_stepped()
     // That a run of two threads has too many events, or any other fault.
     ensures trace_fault { (json : Bool) → IsFaulty program (Some (Trace 64 json None)) (Some lost_update) (Some []) → ⊥ }
     ensures draw_fault { IsFaulty program (Some (Draw 64 None)) (Some lost_update) (Some []) → ⊥ }
+{}
+
+/// What is not printed of a script with the schedule of words, and what this is not.
+pub fn not_scheduled()
+    // A report of none of the runs by these words.
+    ensures led_elsewhere { (tries : ℕ) (json : Bool) (words bytes text : List ℕ) (f g : File)
+        → file_of bytes ≡ Ok f → with_schedule f words ≡ Ok g → IsOutput (Step tries json (Some words)) bytes text
+        → (IsStepReport (form_for json) g tries (turns_in g.schedule) text → ⊥) → ⊥ }
+    // Anything for words that the script could not have on its line.
+    ensures no_schedule { (tries : ℕ) (json : Bool) (words bytes text : List ℕ) (f : File) (kind : FaultKind)
+        → file_of bytes ≡ Ok f → with_schedule f words ≡ Err kind → IsOutput (Step tries json (Some words)) bytes text → ⊥ }
+    // That of the script itself, that of a thread that there is not, and one without a step.
+    ensures own_kept { with_schedule lost_update_file (codes "1:10") ≡ Ok lost_update_file → ⊥ }
+    ensures no_thread { (f : File) → with_schedule lost_update_file (codes "2:1") ≡ Ok f → ⊥ }
+    ensures no_steps { (f : File) → with_schedule lost_update_file (codes "0:0") ≡ Ok f → ⊥ }
 {}
 
 /// What `explore` does not tell of outcomes that are asked for.

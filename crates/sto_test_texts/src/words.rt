@@ -215,7 +215,10 @@ fn numbers_of(command: &Command) -> (u8, u64, u64, bool) {
         Command::Trace { tries, json, .. } => (2, 0, (*tries).into(), *json),
         Command::Draw { tries, .. } => (3, 0, (*tries).into(), false),
         Command::Explore {
-            by, states, json, ..
+            by,
+            states,
+            json,
+            ..
         } => (4, *by as u64, *states, *json),
         Command::Schedules {
             switches,
@@ -276,9 +279,15 @@ fn texts_of_options(rt: HostRuntime) {
     let step = ["step", "--schedule", "1:4 0:10"];
     assert_eq!(rt; has_texts(alloc, step.as_slice(), schedule, None), Ok(true));
     let trace = ["trace", "--schedule=1:4 0:10", "--json"];
-    assert_eq!(rt; has_texts(alloc, trace.as_slice(), schedule, None), Ok(true));
+    assert_eq!(rt;
+        has_texts(alloc, trace.as_slice(), schedule, None),
+        Ok(true)
+    );
     let draw = ["draw", "--schedule", ""];
-    assert_eq!(rt; has_texts(alloc, draw.as_slice(), Some(b"".as_slice()), None), Ok(true));
+    assert_eq!(rt;
+        has_texts(alloc, draw.as_slice(), Some(b"".as_slice()), None),
+        Ok(true)
+    );
     let only = ["explore", "--where", "a = 1"];
     let asked = Some((false, b"a = 1".as_slice()));
     assert_eq!(rt; has_texts(alloc, only.as_slice(), None, asked), Ok(true));

@@ -14,7 +14,7 @@ returns-clause-made g c =
     IfOk-weaker c.explore_told.result
     (λ told. IsExplored (same_by c.args.by) c.args.states c.args.json c.args.asked c.as_slice.result.now told.answer told.text.items)
     (λ told. Made program (commands.Explore c.args.by c.args.states c.args.json c.args.asked) told.answer (g.S.Source.left c.args.source.now) (g.S.Source.left c.script_left.new.source)
-        told.text.items)
+    told.text.items)
     (λ told h.
     let output : IsExplored (same_by c.args.by) c.args.states c.args.json c.args.asked c.in_ok-bytes.bytes.items told.answer told.text.items =
     subst (λ (bytes : List ℕ). IsExplored (same_by c.args.by) c.args.states c.args.json c.args.asked bytes told.answer told.text.items) c.as_slice.ensures.items h in
@@ -32,5 +32,5 @@ returns-clause-unmade g c =
     (λ e. Unmade program e (commands.Explore c.args.by c.args.states c.args.json c.args.asked) (g.S.Source.left c.args.source.now) (g.S.Source.left c.script_left.new.source))
     (λ e h. unexplored c.args.by c.args.states c.args.json c.args.asked (g.S.Source.left c.args.source.now) (g.S.Source.left c.script_left.new.source) c.in_ok-bytes.bytes.items e
     c.in_ok-bytes.ensures.taken c.in_ok-bytes.ensures.end (subst (λ (bytes : List ℕ). IsRefusalFor (IsOrdersFault (same_by c.args.by) c.args.states c.args.asked bytes) e)
-        c.as_slice.ensures.items h))
+    c.as_slice.ensures.items h))
     c.explore_told.ensures.fault
