@@ -1,8 +1,7 @@
-use Rattle.std.proofs.Common.{refl, subst, sym, List, ℕ, Option, Some}
-use Rattle.std.proofs.lemmas.Result.{IfOk-weaker, IfErr-weaker}
 use Rattle.sto_lang.specs.Views.{file as view}
 use Rattle.sto_lang.proofs.SoundFiles.{readable_sound}
 use Rattle.sto_cli.proofs.Refusals.{no_file, no_schedule}
+use Rattle.sto_cli.proofs.Scheduling.{whole_file, scheduled_file}
 use Rattle.sto_cli.proofs.script.scheduled_in.Goals as goal
 
 pub scheduled-requires : goal.scheduled-requires
