@@ -140,3 +140,10 @@ pub no_question : (by : SameBy) (states : ℕ) (json : Bool) (words bytes text :
 no_question by states json words bytes text f fault answer reads asks (g, also, tells) =
     let same : g ≡ f = one_file bytes g f also reads in
     true≢false (ap is_ok (sym tells.told.reads ∙ ap (λ (x : File). question_of x words) same ∙ asks))
+
+-- where nothing is asked, or what may be, no outcome is one that must never be
+pub found_unasked : (by : SameBy) (states : ℕ) (json : Bool) (bytes text : List ℕ) → IsExplored by states json None bytes Found text → ⊥
+found_unasked by states json bytes text (g, also, tells) = found_is_not_done (sym tells.told.0)
+
+pub found_where : (by : SameBy) (states : ℕ) (json : Bool) (words bytes text : List ℕ) → IsExplored by states json (Some (Where words)) bytes Found text → ⊥
+found_where by states json words bytes text (g, also, tells) = found_is_not_done (sym tells.told.answered)

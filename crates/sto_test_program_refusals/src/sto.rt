@@ -112,6 +112,10 @@ pub fn not_asked()
         → file_of bytes ≡ Ok f → question_of f words ≡ Ok q
         → ((report : List ℕ) → IsLawfulIn (form_for json) (updating_by means) f 64 report → is_true_in (form_for json) f q report ≡ false)
         → IsExplored by states json (Some (Never words)) bytes Found text → ⊥ }
+    // And where nothing is asked, or what may be.
+    ensures found_unasked { (by : SameBy) (states : ℕ) (json : Bool) (bytes text : List ℕ) → IsExplored by states json None bytes Found text → ⊥ }
+    ensures found_where { (by : SameBy) (states : ℕ) (json : Bool) (words bytes text : List ℕ)
+        → IsExplored by states json (Some (Where words)) bytes Found text → ⊥ }
     // Anything for words that are no question.
     ensures no_question { (by : SameBy) (states : ℕ) (json : Bool) (words bytes text : List ℕ) (f : File) (fault : QuestionFault) (answer : Answer)
         → file_of bytes ≡ Ok f → question_of f words ≡ Err fault → IsExplored by states json (Some (Where words)) bytes answer text → ⊥ }

@@ -4,7 +4,7 @@ use Rattle.std.proofs.lemmas.List.Elements.{All-head}
 use Rattle.sto_run.specs.Forms.{form_for}
 use Rattle.sto_run_orders.specs.declared.report.OrderReport.{OrderReport}
 use Rattle.sto_run_orders.specs.Asked.{is_true_in}
-use Rattle.sto_test_program_refusals.proofs.Questions.{each_true, each_told, never_silent, never_loud, no_question}
+use Rattle.sto_test_program_refusals.proofs.Questions.{each_true, each_told, never_silent, never_loud, no_question, found_unasked, found_where}
 use Rattle.sto_test_program_refusals.proofs.sto.not_asked.Goals as goal
 
 pub returns-clause-false_told : goal.returns-clause-false_told
@@ -23,3 +23,9 @@ returns-clause-never_loud c = never_loud
 
 pub returns-clause-no_question : goal.returns-clause-no_question
 returns-clause-no_question c = no_question
+
+pub returns-clause-found_unasked : goal.returns-clause-found_unasked
+returns-clause-found_unasked c = found_unasked
+
+pub returns-clause-found_where : goal.returns-clause-found_where
+returns-clause-found_where c = found_where
