@@ -4,4 +4,3 @@ pub mod Counted
 pub mod Lines
 pub mod Refusals
 pub mod Printed
-pub mod Scheduling

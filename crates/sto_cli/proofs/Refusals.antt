@@ -43,21 +43,22 @@ no_file schedule bytes Usage h = absurd h
 no_file schedule bytes ReadFault h = absurd h
 no_file schedule bytes WriteFault h = absurd h
 
-unscheduled_fault : (words bytes : List ℕ) (file : File) → file_of bytes ≡ Ok file → (fault : InputFault) → IsUnscheduled words file fault → IsScheduledFault (Some words) bytes fault
-unscheduled_fault words bytes file reads (Schedule kind) h = record { script = file; reads = reads; refused = h }
-unscheduled_fault words bytes file reads (Script fault) h = absurd h
-unscheduled_fault words bytes file reads NoReport h = absurd h
-unscheduled_fault words bytes file reads LongTrace h = absurd h
-unscheduled_fault words bytes file reads LongRun h = absurd h
-unscheduled_fault words bytes file reads (ManySchedules counts) h = absurd h
-unscheduled_fault words bytes file reads (ManyStates count) h = absurd h
-unscheduled_fault words bytes file reads (Question fault) h = absurd h
+unscheduled_fault : (schedule : Option (List ℕ)) (bytes : List ℕ) (file : File) → file_of bytes ≡ Ok file → (fault : InputFault) → IsUnscheduled schedule file fault
+    → IsScheduledFault schedule bytes fault
+unscheduled_fault schedule bytes file reads (Schedule kind) h = record { script = file; reads = reads; refused = h }
+unscheduled_fault schedule bytes file reads (Script fault) h = absurd h
+unscheduled_fault schedule bytes file reads NoReport h = absurd h
+unscheduled_fault schedule bytes file reads LongTrace h = absurd h
+unscheduled_fault schedule bytes file reads LongRun h = absurd h
+unscheduled_fault schedule bytes file reads (ManySchedules counts) h = absurd h
+unscheduled_fault schedule bytes file reads (ManyStates count) h = absurd h
+unscheduled_fault schedule bytes file reads (Question fault) h = absurd h
 
 -- a script that could not have the schedule of the words
-pub no_schedule : (words bytes : List ℕ) (file : File) → file_of bytes ≡ Ok file → (e : Refusal) → IsRefusalFor (IsUnscheduled words file) e
-    → IsRefusalFor (IsScheduledFault (Some words) bytes) e
-no_schedule words bytes file reads e h =
-    refused_for (IsUnscheduled words file) (IsScheduledFault (Some words) bytes) (unscheduled_fault words bytes file reads) e h
+pub no_schedule : (schedule : Option (List ℕ)) (bytes : List ℕ) (file : File) → file_of bytes ≡ Ok file → (e : Refusal) → IsRefusalFor (IsUnscheduled schedule file) e
+    → IsRefusalFor (IsScheduledFault schedule bytes) e
+no_schedule schedule bytes file reads e h =
+    refused_for (IsUnscheduled schedule file) (IsScheduledFault schedule bytes) (unscheduled_fault schedule bytes file reads) e h
 
 untraceable_fault : (schedule : Option (List ℕ)) (bytes : List ℕ) (fault : InputFault) → IsScheduledFault schedule bytes fault → IsTraceFault schedule bytes fault
 untraceable_fault schedule bytes (Script fault) h = h

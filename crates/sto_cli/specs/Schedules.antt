@@ -35,13 +35,13 @@ IsScheduledFault schedule bytes (ManySchedules counts) = ⊥
 IsScheduledFault schedule bytes (ManyStates count) = ⊥
 IsScheduledFault schedule bytes (Question fault) = ⊥
 
--- words are no schedule of a file, for this fault
-abbrev pub IsUnscheduled : List ℕ → File → InputFault → Type 0
-IsUnscheduled words file (Schedule kind) = with_schedule file words ≡ Err kind
-IsUnscheduled words file (Script fault) = ⊥
-IsUnscheduled words file NoReport = ⊥
-IsUnscheduled words file LongTrace = ⊥
-IsUnscheduled words file LongRun = ⊥
-IsUnscheduled words file (ManySchedules counts) = ⊥
-IsUnscheduled words file (ManyStates count) = ⊥
-IsUnscheduled words file (Question fault) = ⊥
+-- the words are no schedule of a file, for this fault
+abbrev pub IsUnscheduled : Option (List ℕ) → File → InputFault → Type 0
+IsUnscheduled schedule file (Schedule kind) = scheduled_by schedule file ≡ Err kind
+IsUnscheduled schedule file (Script fault) = ⊥
+IsUnscheduled schedule file NoReport = ⊥
+IsUnscheduled schedule file LongTrace = ⊥
+IsUnscheduled schedule file LongRun = ⊥
+IsUnscheduled schedule file (ManySchedules counts) = ⊥
+IsUnscheduled schedule file (ManyStates count) = ⊥
+IsUnscheduled schedule file (Question fault) = ⊥

@@ -143,6 +143,32 @@ fn asked_told(
     }
 }
 
+// What is told of a file: of all outcomes, or of those alone that are asked for.
+fn outcomes_told(
+    alloc: Global,
+    file: &File,
+    by: SameBy,
+    states: u64,
+    json: bool,
+    asked: &Option<Asked>,
+) -> Result<Told, Refusal>
+    requires { IsSound (view file.now) }
+    ensures told { IfOk result (λ told. TellsOrders by states json asked.now (view file.now) told.answer told.text.items) }
+    ensures fault { IfErr result (λ e. IsRefusalFor (IsUntold by states asked.now (view file.now)) e) }
+{
+    match asked {
+        None => all_told(alloc, file, by, states, json),
+        Some(Asked::Where(words)) => {
+            let words = words.as_bytes();
+            asked_told(alloc, file, by, states, json, Asking::Where, words)
+        }
+        Some(Asked::Never(words)) => {
+            let words = words.as_bytes();
+            asked_told(alloc, file, by, states, json, Asking::Never, words)
+        }
+    }
+}
+
 /// What `explore` tells of these bytes.
 pub(crate) fn explore_told(
     alloc: Global,
@@ -156,16 +182,5 @@ pub(crate) fn explore_told(
     ensures fault { IfErr result (λ e. IsRefusalFor (IsOrdersFault (same_by by) states asked.now bytes.now) e) }
 {
     let file = file_in(alloc, bytes)?;
-    let by = same_by(by);
-    match asked {
-        None => all_told(alloc, &file, by, states, json),
-        Some(Asked::Where(words)) => {
-            let words = words.as_bytes();
-            asked_told(alloc, &file, by, states, json, Asking::Where, words)
-        }
-        Some(Asked::Never(words)) => {
-            let words = words.as_bytes();
-            asked_told(alloc, &file, by, states, json, Asking::Never, words)
-        }
-    }
+    outcomes_told(alloc, &file, same_by(by), states, json, asked)
 }

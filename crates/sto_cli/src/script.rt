@@ -1,10 +1,8 @@
 //! A script with the schedule of words in the place of its own.
 ghost use Rattle.std.specs.Prelude.{◌≡◌, Ok, IfOk, IfErr};
-ghost use Rattle.sto_console.specs.declared.refusal.InputFault.{InputFault as Fault};
 ghost use Rattle.sto_lang.specs.Sound.{IsSound};
 ghost use Rattle.sto_lang.specs.Views.{file as view};
-ghost use Rattle.sto_schedule.specs.Schedules.{with_schedule};
-ghost use Rattle.sto_cli.specs.Schedules.{IsScheduled, IsScheduledFault, IsUnscheduled};
+ghost use Rattle.sto_cli.specs.Schedules.{scheduled_by, IsScheduled, IsScheduledFault, IsUnscheduled};
 ghost use Rattle.sto_cli.specs.Traces.{IsRefusalFor};
 
 use std::alloc::Global;
@@ -13,14 +11,17 @@ use sto_console::{InputFault, Refusal, file_in};
 use sto_lang::File;
 use sto_schedule::{ScheduleError, with_schedule};
 
-// A file with the schedule that words are.
-fn scheduled(alloc: Global, file: File, words: &[u8]) -> Result<File, Refusal>
+// A file with the schedule that words are, where there are words.
+fn scheduled(alloc: Global, file: File, schedule: &Option<GivenText>) -> Result<File, Refusal>
     requires { IsSound (view file) }
-    ensures file { IfOk result (λ f. with_schedule (view file) words.now ≡ Ok (view f)) }
+    ensures file { IfOk result (λ f. scheduled_by schedule.now (view file) ≡ Ok (view f)) }
     ensures sound { IfOk result (λ f. IsSound (view f)) }
-    ensures fault { IfErr result (λ e. IsRefusalFor (IsUnscheduled words.now (view file)) e) }
+    ensures fault { IfErr result (λ e. IsRefusalFor (IsUnscheduled schedule.now (view file)) e) }
 {
-    match with_schedule(alloc, file, words) {
+    let Some(words) = schedule else {
+        return Ok(file);
+    };
+    match with_schedule(alloc, file, words.as_bytes()) {
         Ok(file) => Ok(file),
         Err(ScheduleError::Fault(kind)) => Err(Refusal::Input(InputFault::Schedule(kind))),
         Err(ScheduleError::NoMemory) => Err(Refusal::NoMemory),
@@ -38,8 +39,5 @@ pub(crate) fn scheduled_in(
     ensures fault { IfErr result (λ e. IsRefusalFor (IsScheduledFault schedule.now bytes.now) e) }
 {
     let file = file_in(alloc, bytes)?;
-    match schedule {
-        None => Ok(file),
-        Some(words) => scheduled(alloc, file, words.as_bytes()),
-    }
+    scheduled(alloc, file, schedule)
 }
