@@ -143,17 +143,6 @@ fn upgrade_source<S: Source>(alloc: Global, source: &mut S) -> Result<Text, Refu
     upgrade_text(alloc, bytes.as_slice())
 }
 
-// The text of a command that says no more than that all is done.
-fn done(text: Text) -> Told
-    ensures answer { result.answer ≡ Done }
-    ensures text { result.text ≡ text }
-{
-    Told {
-        answer: Answer::Done,
-        text,
-    }
-}
-
 /// Makes the whole text of a command. `run`, `step`, `trace`, `draw`, `explore`, `schedules` and `upgrade` read the source to its end or past the
 /// limit; `gen` and `bench` do not touch it.
 fn told_for<R: Threads + Sync, S: Source, G: Gate, W: Meter>(
@@ -174,19 +163,31 @@ fn told_for<R: Threads + Sync, S: Source, G: Gate, W: Meter>(
             threads,
             tries,
             json,
-        } => Ok(done(run_source(rt, alloc, source, threads, tries, json, gate)?)),
+        } => Ok(Told {
+            answer: Answer::Done,
+            text: run_source(rt, alloc, source, threads, tries, json, gate)?,
+        }),
         Command::Step {
             tries,
             json,
             schedule,
-        } => Ok(done(step_source(alloc, source, tries, json, schedule)?)),
+        } => Ok(Told {
+            answer: Answer::Done,
+            text: step_source(alloc, source, tries, json, schedule)?,
+        }),
         Command::Trace {
             tries,
             json,
             schedule,
-        } => Ok(done(trace_source(alloc, source, tries, json, schedule)?)),
+        } => Ok(Told {
+            answer: Answer::Done,
+            text: trace_source(alloc, source, tries, json, schedule)?,
+        }),
         Command::Draw { tries, schedule } => {
-            Ok(done(draw_source(alloc, source, tries, schedule)?))
+            Ok(Told {
+                answer: Answer::Done,
+                text: draw_source(alloc, source, tries, schedule)?,
+            })
         }
         Command::Explore {
             by,
@@ -198,11 +199,23 @@ fn told_for<R: Threads + Sync, S: Source, G: Gate, W: Meter>(
             switches,
             tries,
             json,
-        } => Ok(done(schedules_source(alloc, source, switches, tries, json, meter)?)),
-        Command::Upgrade => Ok(done(upgrade_source(alloc, source)?)),
-        Command::Gen { number } => Ok(done(gen_text(alloc, number)?)),
+        } => Ok(Told {
+            answer: Answer::Done,
+            text: schedules_source(alloc, source, switches, tries, json, meter)?,
+        }),
+        Command::Upgrade => Ok(Told {
+            answer: Answer::Done,
+            text: upgrade_source(alloc, source)?,
+        }),
+        Command::Gen { number } => Ok(Told {
+            answer: Answer::Done,
+            text: gen_text(alloc, number)?,
+        }),
         Command::Bench { number, threads } => {
-            Ok(done(bench_text(rt, alloc, number, threads, gate)?))
+            Ok(Told {
+                answer: Answer::Done,
+                text: bench_text(rt, alloc, number, threads, gate)?,
+            })
         }
     }
 }

@@ -8,4 +8,4 @@ pub use Rattle.sto_run.specs.Stepped
 pub use Rattle.sto_orders.specs.Outcomes
 pub use Rattle.sto_orders.specs.Causes
 pub use Rattle.sto_question.specs.Questions
-pub use Rattle.sto_question.specs.Views
+pub use Rattle.sto_question.specs.Views as QuestionViews
