@@ -1,7 +1,8 @@
 //! A script with the schedule of words in the place of its own.
-ghost use Rattle.std.specs.Prelude.{◌≡◌, Ok, IfOk, IfErr};
+ghost use Rattle.std.specs.Prelude.{◌≡◌, Some, Ok, IfOk, IfErr};
 ghost use Rattle.sto_lang.specs.Sound.{IsSound};
 ghost use Rattle.sto_lang.specs.Views.{file as view};
+ghost use Rattle.sto_schedule.specs.Schedules.{with_schedule};
 ghost use Rattle.sto_cli.specs.Schedules.{scheduled_by, IsScheduled, IsScheduledFault, IsUnscheduled};
 ghost use Rattle.sto_cli.specs.Traces.{IsRefusalFor};
 
@@ -11,6 +12,20 @@ use sto_console::{InputFault, Refusal, file_in};
 use sto_lang::File;
 use sto_schedule::{ScheduleError, with_schedule};
 
+// A file with the schedule that these words are.
+fn with_words(alloc: Global, file: File, words: &[u8]) -> Result<File, Refusal>
+    requires { IsSound (view file) }
+    ensures file { IfOk result (λ f. with_schedule (view file) words.now ≡ Ok (view f)) }
+    ensures sound { IfOk result (λ f. IsSound (view f)) }
+    ensures fault { IfErr result (λ e. IsRefusalFor (IsUnscheduled (Some words.now) (view file)) e) }
+{
+    match with_schedule(alloc, file, words) {
+        Ok(file) => Ok(file),
+        Err(ScheduleError::Fault(kind)) => Err(Refusal::Input(InputFault::Schedule(kind))),
+        Err(ScheduleError::NoMemory) => Err(Refusal::NoMemory),
+    }
+}
+
 // A file with the schedule that words are, where there are words.
 fn scheduled(alloc: Global, file: File, schedule: &Option<GivenText>) -> Result<File, Refusal>
     requires { IsSound (view file) }
@@ -18,13 +33,9 @@ fn scheduled(alloc: Global, file: File, schedule: &Option<GivenText>) -> Result<
     ensures sound { IfOk result (λ f. IsSound (view f)) }
     ensures fault { IfErr result (λ e. IsRefusalFor (IsUnscheduled schedule.now (view file)) e) }
 {
-    let Some(words) = schedule else {
-        return Ok(file);
-    };
-    match with_schedule(alloc, file, words.as_bytes()) {
-        Ok(file) => Ok(file),
-        Err(ScheduleError::Fault(kind)) => Err(Refusal::Input(InputFault::Schedule(kind))),
-        Err(ScheduleError::NoMemory) => Err(Refusal::NoMemory),
+    match schedule {
+        None => Ok(file),
+        Some(words) => with_words(alloc, file, words.as_bytes()),
     }
 }
 
