@@ -101,7 +101,7 @@ fn told_of(
     ensures text { IfOk result (λ told. told.text.items ≡ asked_in json asking (length reports.items) (view file.now)
         (asked_of (form_for json) (view file.now) (question_of question.now) reports.items)) }
 {
-    let all = reports.len() as u64;
+    let all = reports.as_slice().len() as u64;
     let kept = those_asked(alloc, question, reports)?;
     let text = asked_text(alloc, file, asking, all, kept.as_slice(), json)?;
     Ok(Told {

@@ -16,20 +16,5 @@ told_by : (json : Bool) (file : File) (asking : Asking) (words : List ℕ) (repo
 told_by json file asking.Where words reports answer text h = h
 told_by json file asking.Never words reports answer text h = h
 
-pub returns-in_ok-told_of-in-Ok-clause-told : goal.returns-in_ok-told_of-in-Ok-clause-told
-returns-in_ok-told_of-in-Ok-clause-told c =
-    let told = c.in_ok-told_of-in-Ok.told in record {
-      allowed = c.in-Ok.ensures.allowed;
-      reports = c.in-Ok.reports.items;
-      of_file = c.in-Ok.ensures.reports;
-      complete = c.in-Ok.ensures.complete;
-      told = told_by c.args.json (view c.args.file.now) c.args.asking c.args.words.now c.in-Ok.reports.items told.answer told.text.items (record {
-        question = question_of c.in_ok-question.question;
-        reads = c.in_ok-question.ensures.question;
-        answered = c.in_ok-told_of-in-Ok.ensures.answer;
-        told = c.in_ok-told_of-in-Ok.ensures.text;
-      });
-    }
-
-pub returns-in-Err-clause-fault : goal.returns-in-Err-clause-fault
-returns-in-Err-clause-fault c = c.refusal.ensures c.args.by (Some (asked_by c.args.asking c.args.words.now)) (view c.args.file.now) c.in-Err.ensures.cause
+pub returns-clause-fault : goal.returns-clause-fault
+returns-clause-fault c = c.refusal.ensures c.args.by (Some (asked_by c.args.asking c.args.words.now)) (view c.args.file.now) c.in-Err.ensures.cause
