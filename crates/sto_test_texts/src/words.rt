@@ -1,6 +1,6 @@
 //! Words that are commands, and words that are not.
 use std::alloc::{AllocError, Global};
-use sto_args::{By, Command, find_command};
+use sto_args::{Asked, By, Command, GivenText, find_command};
 
 fn words_of(alloc: Global, words: &[&str]) -> Result<Vec<String>, AllocError> {
     let mut texts = Vec::new(alloc);
@@ -56,6 +56,7 @@ const COMMANDS: &[(&[&str], Command)] = &[
         Command::Step {
             tries: 64,
             json: false,
+            schedule: None,
         },
     ),
     (
@@ -63,6 +64,7 @@ const COMMANDS: &[(&[&str], Command)] = &[
         Command::Step {
             tries: 1,
             json: true,
+            schedule: None,
         },
     ),
     (
@@ -70,6 +72,7 @@ const COMMANDS: &[(&[&str], Command)] = &[
         Command::Trace {
             tries: 64,
             json: false,
+            schedule: None,
         },
     ),
     (
@@ -77,16 +80,30 @@ const COMMANDS: &[(&[&str], Command)] = &[
         Command::Trace {
             tries: 2,
             json: true,
+            schedule: None,
         },
     ),
-    (&["draw"], Command::Draw { tries: 64 }),
-    (&["draw", "--tries", "2"], Command::Draw { tries: 2 }),
+    (
+        &["draw"],
+        Command::Draw {
+            tries: 64,
+            schedule: None,
+        },
+    ),
+    (
+        &["draw", "--tries", "2"],
+        Command::Draw {
+            tries: 2,
+            schedule: None,
+        },
+    ),
     (
         &["explore"],
         Command::Explore {
             by: By::State,
             states: 1_000_000,
             json: false,
+            asked: None,
         },
     ),
     (
@@ -95,6 +112,7 @@ const COMMANDS: &[(&[&str], Command)] = &[
             by: By::Answers,
             states: 1,
             json: true,
+            asked: None,
         },
     ),
     (
@@ -103,6 +121,7 @@ const COMMANDS: &[(&[&str], Command)] = &[
             by: By::Order,
             states: 1_000_000_000,
             json: false,
+            asked: None,
         },
     ),
     (
@@ -111,6 +130,7 @@ const COMMANDS: &[(&[&str], Command)] = &[
             by: By::State,
             states: 1_000_000,
             json: false,
+            asked: None,
         },
     ),
     (
@@ -165,14 +185,115 @@ const COMMANDS: &[(&[&str], Command)] = &[
 #[test]
 fn example_commands(rt: HostRuntime) {
     for (words, command) in COMMANDS {
-        assert_eq!(rt; finds(rt.alloc(), words, Some(*command)), Ok(true));
+        assert_eq!(rt; finds(rt.alloc(), words, Some(command)), Ok(true));
+    }
+}
+
+// The text of an option, where it is given.
+fn text_of(text: &Option<GivenText>) -> Option<&[u8]> {
+    text.as_ref().map(|text| text.as_bytes())
+}
+
+// What is asked of outcomes: whether there must be none, and the text.
+fn asked_of(asked: &Option<Asked>) -> Option<(bool, &[u8])> {
+    match asked {
+        None => None,
+        Some(Asked::Where(text)) => Some((false, text.as_bytes())),
+        Some(Asked::Never(text)) => Some((true, text.as_bytes())),
+    }
+}
+
+// The numbers and the flag of a command, after a number of its own.
+fn numbers_of(command: &Command) -> (u8, u64, u64, bool) {
+    match command {
+        Command::Run {
+            threads,
+            tries,
+            json,
+        } => (0, threads.unwrap_or(0).into(), (*tries).into(), *json),
+        Command::Step { tries, json, .. } => (1, 0, (*tries).into(), *json),
+        Command::Trace { tries, json, .. } => (2, 0, (*tries).into(), *json),
+        Command::Draw { tries, .. } => (3, 0, (*tries).into(), false),
+        Command::Explore {
+            by,
+            states,
+            json,
+            ..
+        } => (4, *by as u64, *states, *json),
+        Command::Schedules {
+            switches,
+            tries,
+            json,
+        } => (5, (*switches).into(), (*tries).into(), *json),
+        Command::Upgrade => (6, 0, 0, false),
+        Command::Gen { number } => (7, 0, *number, false),
+        Command::Bench { number, threads } => (8, threads.unwrap_or(0).into(), *number, false),
+    }
+}
+
+// The schedule and the question of a command.
+fn texts_of(command: &Command) -> (Option<&[u8]>, Option<(bool, &[u8])>) {
+    match command {
+        Command::Step { schedule, .. }
+        | Command::Trace { schedule, .. }
+        | Command::Draw { schedule, .. } => (text_of(schedule), None),
+        Command::Explore { asked, .. } => (None, asked_of(asked)),
+        _ => (None, None),
     }
 }
 
 // Whether this is the command that the words are; none where they are no command.
-fn finds(alloc: Global, words: &[&str], command: Option<Command>) -> Result<bool, AllocError> {
+fn finds(alloc: Global, words: &[&str], command: Option<&Command>) -> Result<bool, AllocError> {
     let words = words_of(alloc, words)?;
-    Ok(find_command(alloc, words.as_slice()) == Ok(command))
+    let Ok(found) = find_command(alloc, words.as_slice()) else {
+        return Err(AllocError);
+    };
+    match (&found, command) {
+        (None, None) => Ok(true),
+        (Some(found), Some(command)) => {
+            Ok(numbers_of(found) == numbers_of(command) && texts_of(found) == texts_of(command))
+        }
+        _ => Ok(false),
+    }
+}
+
+// The schedule, or what is asked of outcomes, that words have.
+fn has_texts(
+    alloc: Global,
+    words: &[&str],
+    schedule: Option<&[u8]>,
+    asked: Option<(bool, &[u8])>,
+) -> Result<bool, AllocError> {
+    let words = words_of(alloc, words)?;
+    match find_command(alloc, words.as_slice()) {
+        Ok(Some(command)) => Ok(texts_of(&command) == (schedule, asked)),
+        _ => Ok(false),
+    }
+}
+
+// The texts of options are those of the words, whatever they are.
+#[test]
+fn texts_of_options(rt: HostRuntime) {
+    let alloc = rt.alloc();
+    let schedule = Some(b"1:4 0:10".as_slice());
+    let step = ["step", "--schedule", "1:4 0:10"];
+    assert_eq!(rt; has_texts(alloc, step.as_slice(), schedule, None), Ok(true));
+    let trace = ["trace", "--schedule=1:4 0:10", "--json"];
+    assert_eq!(rt;
+        has_texts(alloc, trace.as_slice(), schedule, None),
+        Ok(true)
+    );
+    let draw = ["draw", "--schedule", ""];
+    assert_eq!(rt;
+        has_texts(alloc, draw.as_slice(), Some(b"".as_slice()), None),
+        Ok(true)
+    );
+    let only = ["explore", "--where", "a = 1"];
+    let asked = Some((false, b"a = 1".as_slice()));
+    assert_eq!(rt; has_texts(alloc, only.as_slice(), None, asked), Ok(true));
+    let never = ["explore", "--by", "order", "--never=-1 = a"];
+    let asked = Some((true, b"-1 = a".as_slice()));
+    assert_eq!(rt; has_texts(alloc, never.as_slice(), None, asked), Ok(true));
 }
 
 const NO_COMMANDS: &[&[&str]] = &[
@@ -204,6 +325,16 @@ const NO_COMMANDS: &[&[&str]] = &[
     &["explore", "--tries", "2"],
     &["explore", "--switches", "2"],
     &["explore", "2"],
+    &["explore", "--where", "a = 1", "--never", "a = 2"],
+    &["explore", "--where", "a = 1", "--where", "a = 1"],
+    &["explore", "--where"],
+    &["explore", "--where", "-1 = a"],
+    &["explore", "--schedule", "0:1"],
+    &["run", "--schedule", "0:1"],
+    &["run", "--where", "a = 1"],
+    &["step", "--schedule", "0:1", "--schedule", "0:1"],
+    &["step", "--schedule"],
+    &["schedules", "--schedule", "0:1"],
     &["schedules", "--switches", "9"],
     &["schedules", "--switches", "-1"],
     &["schedules", "--switches", "01"],
