@@ -10,182 +10,67 @@ fn words_of(alloc: Global, words: &[&str]) -> Result<Vec<String>, AllocError> {
     Ok(texts)
 }
 
-const COMMANDS: &[(&[&str], Command)] = &[
-    (
-        &["run"],
-        Command::Run {
-            threads: None,
-            tries: 64,
-            json: false,
-        },
-    ),
-    (
-        &["run", "--tries=3"],
-        Command::Run {
-            threads: None,
-            tries: 3,
-            json: false,
-        },
-    ),
-    (
-        &["run", "--tries", "1"],
-        Command::Run {
-            threads: None,
-            tries: 1,
-            json: false,
-        },
-    ),
+// What a command says besides texts.
+type Numbers = (&'static str, u64, u64, bool);
+
+// Words, and the command that they are: its name, a number of its own, its tries, its number or its states, and whether it prints JSON.
+const COMMANDS: &[(&[&str], Numbers)] = &[
+    (&["run"], ("run", 0, 64, false)),
+    (&["run", "--tries=3"], ("run", 0, 3, false)),
+    (&["run", "--tries", "1"], ("run", 0, 1, false)),
     (
         &["run", "--json", "--tries", "64", "--threads=16"],
-        Command::Run {
-            threads: Some(16),
-            tries: 64,
-            json: true,
-        },
+        ("run", 16, 64, true),
     ),
-    (
-        &["run", "--threads", "1", "--json"],
-        Command::Run {
-            threads: Some(1),
-            tries: 64,
-            json: true,
-        },
-    ),
-    (
-        &["step"],
-        Command::Step {
-            tries: 64,
-            json: false,
-            schedule: None,
-        },
-    ),
-    (
-        &["step", "--json", "--tries", "1"],
-        Command::Step {
-            tries: 1,
-            json: true,
-            schedule: None,
-        },
-    ),
-    (
-        &["trace"],
-        Command::Trace {
-            tries: 64,
-            json: false,
-            schedule: None,
-        },
-    ),
-    (
-        &["trace", "--tries=2", "--json"],
-        Command::Trace {
-            tries: 2,
-            json: true,
-            schedule: None,
-        },
-    ),
-    (
-        &["draw"],
-        Command::Draw {
-            tries: 64,
-            schedule: None,
-        },
-    ),
-    (
-        &["draw", "--tries", "2"],
-        Command::Draw {
-            tries: 2,
-            schedule: None,
-        },
-    ),
+    (&["run", "--threads", "1", "--json"], ("run", 1, 64, true)),
+    (&["step"], ("step", 0, 64, false)),
+    (&["step", "--json", "--tries", "1"], ("step", 0, 1, true)),
+    (&["trace"], ("trace", 0, 64, false)),
+    (&["trace", "--tries=2", "--json"], ("trace", 0, 2, true)),
+    (&["draw"], ("draw", 0, 64, false)),
+    (&["draw", "--tries", "2"], ("draw", 0, 2, false)),
     (
         &["explore"],
-        Command::Explore {
-            by: By::State,
-            states: 1_000_000,
-            json: false,
-            asked: None,
-        },
+        ("explore", By::State as u64, 1_000_000, false),
     ),
     (
         &["explore", "--json", "--by=answers", "--states", "1"],
-        Command::Explore {
-            by: By::Answers,
-            states: 1,
-            json: true,
-            asked: None,
-        },
+        ("explore", By::Answers as u64, 1, true),
     ),
     (
         &["explore", "--by", "order", "--states=1000000000"],
-        Command::Explore {
-            by: By::Order,
-            states: 1_000_000_000,
-            json: false,
-            asked: None,
-        },
+        ("explore", By::Order as u64, 1_000_000_000, false),
     ),
     (
         &["explore", "--by", "state"],
-        Command::Explore {
-            by: By::State,
-            states: 1_000_000,
-            json: false,
-            asked: None,
-        },
+        ("explore", By::State as u64, 1_000_000, false),
     ),
-    (
-        &["schedules"],
-        Command::Schedules {
-            switches: 2,
-            tries: 64,
-            json: false,
-        },
-    ),
+    (&["schedules"], ("schedules", 2, 64, false)),
     (
         &["schedules", "--json", "--switches=8", "--tries", "1"],
-        Command::Schedules {
-            switches: 8,
-            tries: 1,
-            json: true,
-        },
+        ("schedules", 8, 1, true),
     ),
     (
         &["schedules", "--switches", "0"],
-        Command::Schedules {
-            switches: 0,
-            tries: 64,
-            json: false,
-        },
+        ("schedules", 0, 64, false),
     ),
-    (&["upgrade"], Command::Upgrade),
-    (&["gen", "0"], Command::Gen { number: 0 }),
-    (&["gen", "1"], Command::Gen { number: 1 }),
-    (&["gen", "7"], Command::Gen { number: 7 }),
+    (&["upgrade"], ("upgrade", 0, 0, false)),
+    (&["gen", "0"], ("gen", 0, 0, false)),
+    (&["gen", "1"], ("gen", 0, 1, false)),
+    (&["gen", "7"], ("gen", 0, 7, false)),
     (
         &["gen", "18446744073709551615"],
-        Command::Gen { number: u64::MAX },
+        ("gen", 0, u64::MAX, false),
     ),
-    (
-        &["bench", "1"],
-        Command::Bench {
-            number: 1,
-            threads: None,
-        },
-    ),
-    (
-        &["bench", "--threads", "4", "7"],
-        Command::Bench {
-            number: 7,
-            threads: Some(4),
-        },
-    ),
+    (&["bench", "1"], ("bench", 0, 1, false)),
+    (&["bench", "--threads", "4", "7"], ("bench", 4, 7, false)),
 ];
 
 // The commands of the program, with their options in both forms.
 #[test]
 fn example_commands(rt: HostRuntime) {
-    for (words, command) in COMMANDS {
-        assert_eq!(rt; finds(rt.alloc(), words, Some(command)), Ok(true));
+    for (words, numbers) in COMMANDS {
+        assert_eq!(rt; finds(rt.alloc(), words, Some(*numbers)), Ok(true));
     }
 }
 
@@ -203,31 +88,36 @@ fn asked_of(asked: &Option<Asked>) -> Option<(bool, &[u8])> {
     }
 }
 
-// The numbers and the flag of a command, after a number of its own.
-fn numbers_of(command: &Command) -> (u8, u64, u64, bool) {
+// What a command says besides texts.
+fn numbers_of(command: &Command) -> Numbers {
     match command {
         Command::Run {
             threads,
             tries,
             json,
-        } => (0, threads.unwrap_or(0).into(), (*tries).into(), *json),
-        Command::Step { tries, json, .. } => (1, 0, (*tries).into(), *json),
-        Command::Trace { tries, json, .. } => (2, 0, (*tries).into(), *json),
-        Command::Draw { tries, .. } => (3, 0, (*tries).into(), false),
+        } => ("run", threads.unwrap_or(0).into(), (*tries).into(), *json),
+        Command::Step { tries, json, .. } => ("step", 0, (*tries).into(), *json),
+        Command::Trace { tries, json, .. } => ("trace", 0, (*tries).into(), *json),
+        Command::Draw { tries, .. } => ("draw", 0, (*tries).into(), false),
         Command::Explore {
             by,
             states,
             json,
             ..
-        } => (4, *by as u64, *states, *json),
+        } => ("explore", *by as u64, *states, *json),
         Command::Schedules {
             switches,
             tries,
             json,
-        } => (5, (*switches).into(), (*tries).into(), *json),
-        Command::Upgrade => (6, 0, 0, false),
-        Command::Gen { number } => (7, 0, *number, false),
-        Command::Bench { number, threads } => (8, threads.unwrap_or(0).into(), *number, false),
+        } => ("schedules", (*switches).into(), (*tries).into(), *json),
+        Command::Upgrade => ("upgrade", 0, 0, false),
+        Command::Gen { number } => ("gen", 0, *number, false),
+        Command::Bench { number, threads } => (
+            "bench",
+            threads.unwrap_or(0).into(),
+            *number,
+            false,
+        ),
     }
 }
 
@@ -242,18 +132,16 @@ fn texts_of(command: &Command) -> (Option<&[u8]>, Option<(bool, &[u8])>) {
     }
 }
 
-// Whether this is the command that the words are; none where they are no command.
-fn finds(alloc: Global, words: &[&str], command: Option<&Command>) -> Result<bool, AllocError> {
+// Whether the words are the command that says just these numbers, and no text; none where they are no command.
+fn finds(alloc: Global, words: &[&str], numbers: Option<Numbers>) -> Result<bool, AllocError> {
     let words = words_of(alloc, words)?;
-    let Ok(found) = find_command(alloc, words.as_slice()) else {
-        return Err(AllocError);
-    };
-    match (&found, command) {
-        (None, None) => Ok(true),
-        (Some(found), Some(command)) => {
-            Ok(numbers_of(found) == numbers_of(command) && texts_of(found) == texts_of(command))
+    match (find_command(alloc, words.as_slice()), numbers) {
+        (Ok(None), None) => Ok(true),
+        (Ok(Some(command)), Some(numbers)) => {
+            Ok(numbers_of(&command) == numbers && texts_of(&command) == (None, None))
         }
-        _ => Ok(false),
+        (Ok(_), _) => Ok(false),
+        (Err(_), _) => Err(AllocError),
     }
 }
 
