@@ -40,11 +40,12 @@ module _ (form : ReportForm) (f : File) (q : Question) where
   -- of each that is told it is true
   pub each_true : (reports : List OrderReport) → All (λ (r : OrderReport). is_true r ≡ true) (asked_of form f q reports)
   each_true [] = All-nil (λ (r : OrderReport). is_true r ≡ true)
-  each_true (r ∷ reports) = by (is_true r) refl
+  each_true (r ∷ reports) = by (is_true r) refl (each_true reports)
     where
-      by : (b : Bool) → is_true r ≡ b → All (λ (x : OrderReport). is_true x ≡ true) (cond b (r ∷ asked_of form f q reports) (asked_of form f q reports))
-      by true e = All-cons (λ (x : OrderReport). is_true x ≡ true) r (asked_of form f q reports) e (each_true reports)
-      by false e = each_true reports
+      by : (b : Bool) → is_true r ≡ b → All (λ (x : OrderReport). is_true x ≡ true) (asked_of form f q reports)
+          → All (λ (x : OrderReport). is_true x ≡ true) (cond b (r ∷ asked_of form f q reports) (asked_of form f q reports))
+      by true e rest = All-cons (λ (x : OrderReport). is_true x ≡ true) r (asked_of form f q reports) e rest
+      by false e rest = rest
 
   -- and each of which it is true is told
   pub each_told : (reports : List OrderReport) (r : OrderReport) → Contains reports r → is_true r ≡ true → Contains (asked_of form f q reports) r
@@ -52,14 +53,11 @@ module _ (form : ReportForm) (f : File) (q : Question) where
   each_told (x ∷ reports) r (zero, l, e) true_of =
       let same : x ≡ r = e in
       subst (λ (b : Bool). Contains (cond b (x ∷ asked_of form f q reports) (asked_of form f q reports)) r) (sym (ap is_true same ∙ true_of)) (0, omega arith, same)
-  each_told (x ∷ reports) r (suc k, l, e) true_of = by (is_true x)
+  each_told (x ∷ reports) r (suc k, l, e) true_of = by (is_true x) (each_told reports r (k, omega (arith, l), e) true_of)
     where
-      rest : Contains (asked_of form f q reports) r
-      rest = each_told reports r (k, omega (arith, l), e) true_of
-
-      by : (b : Bool) → Contains (cond b (x ∷ asked_of form f q reports) (asked_of form f q reports)) r
-      by true = (suc rest.0, (let within = rest.1 in omega (arith, within)), rest.2)
-      by false = rest
+      by : (b : Bool) → Contains (asked_of form f q reports) r → Contains (cond b (x ∷ asked_of form f q reports) (asked_of form f q reports)) r
+      by true rest = (suc rest.0, (let within = rest.1 in omega (arith, within)), rest.2)
+      by false rest = rest
 
   -- one that tells the same as a text of which it is true
   pub some_told : (by : SameBy) (reports : List OrderReport) (report : List ℕ) → IsAmong by form f reports report → is_true_in form f q report ≡ true
@@ -70,11 +68,11 @@ module _ (form : ReportForm) (f : File) (q : Question) where
       let here : is_true x ≡ true = ap (λ (end : OrderEnd). is_true_of q end.state) same ∙ true_of in
       let n : suc (length (asked_of form f q reports)) ≡ 0 = ap (λ (b : Bool). length (cond b (x ∷ asked_of form f q reports) (asked_of form f q reports))) (sym here) ∙ ap length none in
       omega (arith, n)
-  some_told by (x ∷ reports) report (suc k, l, e) true_of none = at (is_true x) none
+  some_told by (x ∷ reports) report (suc k, l, e) true_of none = at (is_true x) none (some_told by reports report (k, omega (arith, l), e) true_of)
     where
-      at : (b : Bool) → cond b (x ∷ asked_of form f q reports) (asked_of form f q reports) ≡ [] → ⊥
-      at true is = let n : suc (length (asked_of form f q reports)) ≡ 0 = ap length is in omega (arith, n)
-      at false is = some_told by reports report (k, omega (arith, l), e) true_of is
+      at : (b : Bool) → cond b (x ∷ asked_of form f q reports) (asked_of form f q reports) ≡ [] → (asked_of form f q reports ≡ [] → ⊥) → ⊥
+      at true is rest = let n : suc (length (asked_of form f q reports)) ≡ 0 = ap length is in omega (arith, n)
+      at false is rest = rest is
 
 done_for_none : (kept : List OrderReport) → Done ≡ answer_for asking.Never kept → kept ≡ []
 done_for_none [] e = refl
@@ -110,14 +108,15 @@ record IsTold (form : ReportForm) (f : File) (q : Question) (reports : List Orde
 told_in : (form : ReportForm) (f : File) (q : Question) (reports : List OrderReport) (r : OrderReport) (others : List OrderReport) → asked_of form f q reports ≡ r ∷ others
     → IsTold form f q reports
 told_in form f q [] r others e = absurd cc
-told_in form f q (x ∷ reports) r others e = by (is_true_in form f q x.report.items) refl e
+told_in form f q (x ∷ reports) r others e = by (is_true_in form f q x.report.items) refl e (λ is. told_in form f q reports r others is)
   where
     more : IsTold form f q reports → IsTold form f q (x ∷ reports)
     more t = record { report = t.report; among = (suc t.among.0, (let within = t.among.1 in omega (arith, within)), t.among.2); true_of = t.true_of }
 
-    by : (b : Bool) → is_true_in form f q x.report.items ≡ b → cond b (x ∷ asked_of form f q reports) (asked_of form f q reports) ≡ r ∷ others → IsTold form f q (x ∷ reports)
-    by true here is = record { report = x; among = (0, omega arith, refl); true_of = here }
-    by false here is = more (told_in form f q reports r others is)
+    by : (b : Bool) → is_true_in form f q x.report.items ≡ b → cond b (x ∷ asked_of form f q reports) (asked_of form f q reports) ≡ r ∷ others
+        → (asked_of form f q reports ≡ r ∷ others → IsTold form f q reports) → IsTold form f q (x ∷ reports)
+    by true here is rest = record { report = x; among = (0, omega arith, refl); true_of = here }
+    by false here is rest = more (rest is)
 
 pub never_loud : (by : SameBy) (states : ℕ) (json : Bool) (words bytes text : List ℕ) (f : File) (q : Question) → file_of bytes ≡ Ok f → question_of f words ≡ Ok q
     → ((report : List ℕ) → IsLawfulIn (form_for json) (updating_by means) f 64 report → is_true_in (form_for json) f q report ≡ false)

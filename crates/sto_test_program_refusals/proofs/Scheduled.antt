@@ -1,7 +1,9 @@
 -- What a script with a schedule of words says, and what is not printed of it.
 use Rattle.std.specs.Prelude.{codes}
+use Rattle.std.specs.Fmt.{digits}
+use Rattle.std.specs.Int.{w64, int_wrap}
 use Rattle.std.specs.Result.{is_ok}
-use Rattle.std.proofs.Common.{◌≡◌, ℕ, List, length, Bool, None, Some, Result, Ok, Err, sym, ap, ◌∙◌, subst, arith, true≢false}
+use Rattle.std.proofs.Common.{◌≡◌, ℕ, nat_eq, List, length, Bool, None, Some, Result, Ok, Err, sym, ap, ◌∙◌, subst, arith, true≢false, refl}
 use Rattle.sto_lang.specs.Files.{file_of}
 use Rattle.sto_lang.specs.Scripts.{File}
 use Rattle.sto_lang.specs.declared.fault.FaultKind.{FaultKind}
@@ -12,7 +14,7 @@ use Rattle.sto_run.specs.Stepped.{IsStepReport}
 use Rattle.sto_args.specs.declared.command.Command.TheVariants.{Step}
 use Rattle.sto_cli.specs.Schedules.{IsScheduled}
 use Rattle.sto_cli.specs.Outputs.{IsOutput}
-use Rattle.sto_test_program_refusals.specs.Inputs.{lost_update_file}
+use Rattle.sto_test_program_refusals.specs.Inputs.{lost_update_file, second_first_file}
 
 pub one_file : (bytes : List ℕ) (f g : File) → file_of bytes ≡ Ok f → file_of bytes ≡ Ok g → f ≡ g
 one_file bytes f g one other = let e = sym one ∙ other in cc
@@ -38,17 +40,27 @@ pub no_schedule : (tries : ℕ) (json : Bool) (words bytes text : List ℕ) (f :
     → IsOutput (Step tries json (Some words)) bytes text → ⊥
 no_schedule tries json words bytes text f kind reads refused o = true≢false (ap is_ok (sym (with_words words bytes f o.0 reads o.1) ∙ refused))
 
-entry_count : Result File FaultKind → ℕ
+abbrev entry_count : Result File FaultKind → ℕ
 entry_count (Ok f) = length (turns_in f.schedule)
 entry_count (Err kind) = 0
 
--- the script's own schedule is not kept
+-- the words stand in the place of the script's own schedule
+as_worded : with_schedule lost_update_file (codes "1:10") ≡ Ok second_first_file
+unfolding digits int_wrap
+as_worded = refl
+
+-- which is not kept
 pub own_kept : with_schedule lost_update_file (codes "1:10") ≡ Ok lost_update_file → ⊥
-own_kept e = let n : 1 ≡ 2 = ap entry_count e in omega (arith, n)
+own_kept e =
+    let same : ◌≡◌ {A = Result File FaultKind} (Ok second_first_file) (Ok lost_update_file) = sym as_worded ∙ e in
+    let n : entry_count (Ok second_first_file) ≡ entry_count (Ok lost_update_file) = ap entry_count same in
+    true≢false (ap (λ k. nat_eq k 1) n)
 
 -- there is no third thread, and no turn without a step
 pub no_thread : (f : File) → with_schedule lost_update_file (codes "2:1") ≡ Ok f → ⊥
+unfolding digits int_wrap
 no_thread f e = true≢false (sym (ap is_ok e))
 
 pub no_steps : (f : File) → with_schedule lost_update_file (codes "0:0") ≡ Ok f → ⊥
+unfolding digits int_wrap
 no_steps f e = true≢false (sym (ap is_ok e))
