@@ -144,6 +144,34 @@ static void test_waiting(void)
     NEED(sto_atomically(store, pop, &value, &no_end, NULL) == STO_OK);
 }
 
+static _Atomic int attempts;
+
+static sto_verdict pop_counted(sto_tx *tx, void *given)
+{
+    attempts++;
+    return pop(tx, given);
+}
+
+static void *waiter(void *given)
+{
+    NEED(sto_atomically(store, pop_counted, given, NULL, NULL) == STO_OK);
+    return NULL;
+}
+
+/* A store in which a thread waits is in use, though no worker is taken. */
+static void test_closing_beside_a_waiter(void)
+{
+    pthread_t thread;
+    sto_row *rows;
+    size_t count;
+    int64_t got = 0, value = 7;
+    NEED(!pthread_create(&thread, NULL, waiter, &got));
+    while (attempts < 2) sched_yield();
+    NEED(sto_store_close(store, &rows, &count) == STO_IN_USE);
+    NEED(sto_atomically(store, push, &value, NULL, NULL) == STO_OK);
+    NEED(!pthread_join(thread, NULL) && got == 7);
+}
+
 /* What is refused, by its name */
 
 static sto_verdict nested(sto_tx *tx, void *given)
@@ -286,6 +314,7 @@ int main(int argc, char **argv)
     test_transfers();
     make(2);
     test_waiting();
+    test_closing_beside_a_waiter();
     test_refusals();
     test_fork();
     test_calls();
