@@ -15,7 +15,7 @@ use Rattle.clap.proofs.FaultLemmas.{leaf_fault}
 use Rattle.clap.proofs.WalkLemmas.{first_value-rows}
 use Rattle.clap.proofs.OnLiterals.{clap_on_literals}
 use Rattle.sto_args.specs.Given.{Text, Takes, Given, number_name, is_option, value_of, given_by, is_refused}
-use Rattle.sto_args.specs.Commands.{run_takes, step_takes, explore_takes, schedules_takes, gen_takes, bench_takes}
+use Rattle.sto_args.specs.Commands.{run_takes, step_takes, draw_takes, explore_takes, schedules_takes, gen_takes, bench_takes}
 use Rattle.sto_args.specs.Asked.{check_takes, feed_takes}
 use Rattle.sto_args.specs.Grammars.{Finds, app_for}
 use Rattle.sto_args.proofs.Rows.{valued, row}
@@ -253,6 +253,14 @@ step_is_built = is_built (codes "step") step_takes refl refl (λ rows. refl)
 pub step_is_simple : is_simple_and_free (app_for (codes "step") step_takes) ≡ true
 unfolding clap_on_literals
 step_is_simple = refl
+
+pub draw_is_built : IsBuilt (codes "draw") draw_takes
+unfolding clap_on_literals
+draw_is_built = is_built (codes "draw") draw_takes refl refl (λ rows. refl)
+
+pub draw_is_simple : is_simple_and_free (app_for (codes "draw") draw_takes) ≡ true
+unfolding clap_on_literals
+draw_is_simple = refl
 
 pub explore_is_built : IsBuilt (codes "explore") explore_takes
 unfolding clap_on_literals

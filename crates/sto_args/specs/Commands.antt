@@ -10,6 +10,8 @@ use Rattle.sto_args.specs.declared.command.Stepping.{Stepping}
 use Rattle.sto_args.specs.declared.command.Command.TheVariants.{Run, Step, Trace, Draw, Explore, Schedules, Upgrade, Gen, Bench}
 use Rattle.sto_args.specs.declared.command.By.{By}
 use Rattle.sto_args.specs.declared.command.By.TheVariants.{State, Answers, Order}
+use Rattle.sto_args.specs.declared.command.Asked.{Asked}
+use Rattle.sto_args.specs.declared.command.Asked.TheVariants.{Where, Never}
 
 -- the number of 64 bits that a text is: decimal digits without a sign, and no leading zero unless it is 0 alone
 abbrev pub decimal_of : Text → Option ℕ
@@ -36,30 +38,30 @@ tries_of (Some text) = number_in 1 64 text
 abbrev pub run_of : Given → Option Command
 run_of given = option_and_then (λ threads. option_map (λ tries. Run threads tries (is_some (value_of (codes "json") given))) (tries_of (value_of (codes "tries") given))) (threads_of (value_of (codes "threads") given))
 
--- `step [--tries N] [--json]`
+-- `step [--tries N] [--json] [--schedule TEXT]`
 abbrev pub step_takes : Takes
-step_takes = record { options = codes "tries" ∷ codes "json" ∷ []; number = false }
+step_takes = record { options = codes "tries" ∷ codes "json" ∷ codes "schedule" ∷ []; number = false }
 
 abbrev pub stepping_of : Given → Option Stepping
-stepping_of given = option_map (λ tries. record { tries = tries; json = is_some (value_of (codes "json") given) }) (tries_of (value_of (codes "tries") given))
+stepping_of given = option_map (λ tries. record { tries = tries; json = is_some (value_of (codes "json") given); schedule = value_of (codes "schedule") given }) (tries_of (value_of (codes "tries") given))
 
 abbrev pub step_of : Given → Option Command
-step_of given = option_map (λ stepping. Step stepping.tries stepping.json) (stepping_of given)
+step_of given = option_map (λ stepping. Step stepping.tries stepping.json stepping.schedule) (stepping_of given)
 
 -- `trace`, which takes what `step` takes
 abbrev pub trace_of : Given → Option Command
-trace_of given = option_map (λ stepping. Trace stepping.tries stepping.json) (stepping_of given)
+trace_of given = option_map (λ stepping. Trace stepping.tries stepping.json stepping.schedule) (stepping_of given)
 
--- `draw [--tries N]`
+-- `draw [--tries N] [--schedule TEXT]`
 abbrev pub draw_takes : Takes
-draw_takes = record { options = codes "tries" ∷ []; number = false }
+draw_takes = record { options = codes "tries" ∷ codes "schedule" ∷ []; number = false }
 
 abbrev pub draw_of : Given → Option Command
-draw_of given = option_map (λ tries. Draw tries) (tries_of (value_of (codes "tries") given))
+draw_of given = option_map (λ tries. Draw tries (value_of (codes "schedule") given)) (tries_of (value_of (codes "tries") given))
 
--- `explore [--by WORD] [--states N] [--json]`
+-- `explore [--by WORD] [--states N] [--json]`, and at most one of `[--where TEXT]` and `[--never TEXT]`
 abbrev pub explore_takes : Takes
-explore_takes = record { options = codes "by" ∷ codes "states" ∷ codes "json" ∷ []; number = false }
+explore_takes = record { options = codes "by" ∷ codes "states" ∷ codes "json" ∷ codes "where" ∷ codes "never" ∷ []; number = false }
 
 -- `state`, `answers` or `order`; `state` where nothing is given
 abbrev pub by_of : Option Text → Option By
@@ -75,8 +77,16 @@ abbrev pub states_of : Option Text → Option ℕ
 states_of None = Some 1000000
 states_of (Some text) = number_in 1 1000000000 text
 
+-- what is asked of outcomes by these two texts: nothing, by one of them, and nothing is right where both are given
+abbrev pub asked_of : Option Text → Option Text → Option (Option Asked)
+asked_of None None = Some None
+asked_of (Some text) None = Some (Some (Where text))
+asked_of None (Some text) = Some (Some (Never text))
+asked_of (Some text) (Some other) = None
+
 abbrev pub explore_of : Given → Option Command
-explore_of given = option_and_then (λ by. option_map (λ states. Explore by states (is_some (value_of (codes "json") given))) (states_of (value_of (codes "states") given))) (by_of (value_of (codes "by") given))
+explore_of given = option_and_then (λ by. option_and_then (λ states. option_map (λ asked. Explore by states (is_some (value_of (codes "json") given)) asked)
+    (asked_of (value_of (codes "where") given) (value_of (codes "never") given))) (states_of (value_of (codes "states") given))) (by_of (value_of (codes "by") given))
 
 -- `schedules [--switches K] [--tries N] [--json]`
 abbrev pub schedules_takes : Takes
@@ -139,10 +149,10 @@ HasThreads (Some threads) = (1 ≤ threads) × (threads ≤ 16)
 -- the threads, the tries and the switches are in their ranges
 abbrev pub HasRange : Command → Type 0
 HasRange (Run threads tries json) = HasThreads threads × (1 ≤ tries) × (tries ≤ 64)
-HasRange (Step tries json) = (1 ≤ tries) × (tries ≤ 64)
-HasRange (Trace tries json) = (1 ≤ tries) × (tries ≤ 64)
-HasRange (Draw tries) = (1 ≤ tries) × (tries ≤ 64)
-HasRange (Explore by states json) = Unit {0}
+HasRange (Step tries json schedule) = (1 ≤ tries) × (tries ≤ 64)
+HasRange (Trace tries json schedule) = (1 ≤ tries) × (tries ≤ 64)
+HasRange (Draw tries schedule) = (1 ≤ tries) × (tries ≤ 64)
+HasRange (Explore by states json asked) = Unit {0}
 HasRange (Schedules switches tries json) = (switches ≤ 8) × (1 ≤ tries) × (tries ≤ 64)
 HasRange Upgrade = Unit {0}
 HasRange (Gen number) = Unit {0}

@@ -3,12 +3,12 @@ ghost use Rattle.std.specs.Prelude.{◌≡◌, ◌≤◌, IfOk, IfSome, false, i
 ghost use Rattle.std.specs.List.{list_any};
 ghost use Rattle.std.specs.Option.{option_and_then, option_map};
 ghost use Rattle.sto_args.specs.Given.{given_by, is_refused};
-ghost use Rattle.sto_args.specs.Commands.{HasThreads, HasRange, command_in, command_from, run_takes, run_of, step_takes, stepping_of, step_of, trace_of, draw_takes, draw_of, explore_takes, explore_of, schedules_takes, schedules_of, upgrade_of, gen_takes, gen_of, bench_takes, bench_of, threads_of, tries_of, switches_of, by_of, states_of, decimal_of};
+ghost use Rattle.sto_args.specs.Commands.{HasThreads, HasRange, command_in, command_from, run_takes, run_of, step_takes, stepping_of, step_of, trace_of, draw_takes, draw_of, explore_takes, explore_of, asked_of, schedules_takes, schedules_of, upgrade_of, gen_takes, gen_of, bench_takes, bench_of, threads_of, tries_of, switches_of, by_of, states_of, decimal_of};
 
-use crate::asked::{Checking, checking_from};
+use crate::given::GivenText;
 use crate::grammar::{
-    bench_grammar, explore_grammar, gen_grammar, matches_in, run_grammar, schedules_grammar,
-    step_grammar,
+    bench_grammar, draw_grammar, explore_grammar, gen_grammar, matches_in, run_grammar,
+    schedules_grammar, step_grammar,
 };
 use crate::number::{decimal_of, number_in};
 use crate::word::{as_options, has_flag_value, has_refused};
@@ -23,8 +23,15 @@ pub enum By {
     Order,
 }
 
+/// What is asked of outcomes: to tell those alone of which the question is true that a text is; and of `Never`, that there are none.
+#[derive(Drop)]
+pub enum Asked {
+    Where(GivenText),
+    Never(GivenText),
+}
+
 /// What the program is asked to do.
-#[derive(Clone, Copy, PartialEq, Eq)]
+#[derive(Drop)]
 pub enum Command {
     /// Reads a script and runs it, on so many threads, with so many tries of each transaction, and
     /// prints its report, as JSON or as text. Where no number of threads is given, the script says it.
@@ -34,26 +41,31 @@ pub enum Command {
         json: bool,
     },
     /// Reads a script and runs it in one thread by its schedule, with so many tries of each
-    /// transaction, and prints its report, as JSON or as text.
+    /// transaction, and prints its report, as JSON or as text. Where the words have a schedule, it
+    /// stands in the place of that of the script.
     Step {
         tries: u32,
         json: bool,
+        schedule: Option<GivenText>,
     },
     /// Reads a script, runs it as `Step` does, and prints a line for each event, as JSON or as text.
     Trace {
         tries: u32,
         json: bool,
+        schedule: Option<GivenText>,
     },
     /// Reads a script, runs it as `Step` does, and prints a picture of the run.
     Draw {
         tries: u32,
+        schedule: Option<GivenText>,
     },
-    /// Reads a script, and prints what all orders of its transactions lead to, as JSON or as text. At
-    /// most so many nodes may be needed, where orders meet.
+    /// Reads a script, and prints what all orders of its transactions lead to, as JSON or as text, or
+    /// those outcomes alone that are asked for. At most so many nodes may be needed, where orders meet.
     Explore {
         by: By,
         states: u64,
         json: bool,
+        asked: Option<Asked>,
     },
     /// Reads a script, runs it by every schedule with at most so many switches, with so many tries of
     /// each transaction, and prints every outcome, as JSON or as text.
@@ -86,6 +98,32 @@ pub(crate) fn threads(text: Option<&str>) -> Option<Option<u32>>
     };
     let threads = number_in(1, 16, text)?;
     Some(Some(threads as u32))
+}
+
+/// The text that an option gives, where it is given.
+fn given(alloc: Global, text: Option<&str>) -> Result<Option<GivenText>, NoMemory>
+    ensures { IfOk result (λ given. given ≡ option_map (λ t. t.now) text.entry) }
+{
+    match text {
+        Some(text) => Ok(Some(GivenText::of(alloc, text)?)),
+        None => Ok(None),
+    }
+}
+
+/// What two options ask of outcomes. `None` in the result comes where both are given.
+fn asked_for(
+    alloc: Global,
+    only: Option<&str>,
+    never: Option<&str>,
+) -> Result<Option<Option<Asked>>, NoMemory>
+    ensures { IfOk result (λ asked. asked ≡ asked_of (option_map (λ t. t.now) only.entry) (option_map (λ t. t.now) never.entry)) }
+{
+    match (only, never) {
+        (None, None) => Ok(Some(None)),
+        (Some(text), None) => Ok(Some(Some(Asked::Where(GivenText::of(alloc, text)?)))),
+        (None, Some(text)) => Ok(Some(Some(Asked::Never(GivenText::of(alloc, text)?)))),
+        (Some(_), Some(_)) => Ok(None),
+    }
 }
 
 fn is_given(text: Option<&str>) -> bool
@@ -174,11 +212,13 @@ fn run(alloc: Global, words: &[&str]) -> Result<Option<Command>, NoMemory>
     }))
 }
 
-/// How a script is run in one thread: with so many tries of each transaction. What is printed then is JSON or text.
-#[derive(Clone, Copy)]
+/// How a script is run in one thread: with so many tries of each transaction, and by the schedule of the words, where they have one. What is
+/// printed then is JSON or text.
+#[derive(Drop)]
 struct Stepping {
     tries: u32,
     json: bool,
+    schedule: Option<GivenText>,
 }
 
 fn stepping_from(alloc: Global, words: &[&str]) -> Result<Option<Stepping>, NoMemory>
@@ -196,7 +236,12 @@ fn stepping_from(alloc: Global, words: &[&str]) -> Result<Option<Stepping>, NoMe
         return Ok(None);
     };
     let json = is_given(matches.get_str("json"));
-    Ok(Some(Stepping { tries, json }))
+    let schedule = given(alloc, matches.get_str("schedule"))?;
+    Ok(Some(Stepping {
+        tries,
+        json,
+        schedule,
+    }))
 }
 
 fn step(alloc: Global, words: &[&str]) -> Result<Option<Command>, NoMemory>
@@ -205,7 +250,17 @@ fn step(alloc: Global, words: &[&str]) -> Result<Option<Command>, NoMemory>
     ensures command { IfOk result (λ c. c ≡ option_and_then step_of (given_by step_takes (map (λ word. word.now) words.now))) }
 {
     match stepping_from(alloc, words)? {
-        Some(Stepping { tries, json }) => Ok(Some(Command::Step { tries, json })),
+        Some(
+            Stepping {
+                tries,
+                json,
+                schedule,
+            },
+        ) => Ok(Some(Command::Step {
+            tries,
+            json,
+            schedule,
+        })),
         None => Ok(None),
     }
 }
@@ -216,7 +271,17 @@ fn trace(alloc: Global, words: &[&str]) -> Result<Option<Command>, NoMemory>
     ensures command { IfOk result (λ c. c ≡ option_and_then trace_of (given_by step_takes (map (λ word. word.now) words.now))) }
 {
     match stepping_from(alloc, words)? {
-        Some(Stepping { tries, json }) => Ok(Some(Command::Trace { tries, json })),
+        Some(
+            Stepping {
+                tries,
+                json,
+                schedule,
+            },
+        ) => Ok(Some(Command::Trace {
+            tries,
+            json,
+            schedule,
+        })),
         None => Ok(None),
     }
 }
@@ -226,10 +291,17 @@ fn draw(alloc: Global, words: &[&str]) -> Result<Option<Command>, NoMemory>
     ensures range { IfOk result (λ c. IfSome c HasRange) }
     ensures command { IfOk result (λ c. c ≡ option_and_then draw_of (given_by draw_takes (map (λ word. word.now) words.now))) }
 {
-    match checking_from(alloc, words)? {
-        Some(Checking { tries }) => Ok(Some(Command::Draw { tries })),
-        None => Ok(None),
-    }
+    let Ok(grammar) = draw_grammar(alloc) else {
+        return Err(NoMemory);
+    };
+    let Some(matches) = matches_in(grammar, words)? else {
+        return Ok(None);
+    };
+    let Some(tries) = tries(matches.get_str("tries")) else {
+        return Ok(None);
+    };
+    let schedule = given(alloc, matches.get_str("schedule"))?;
+    Ok(Some(Command::Draw { tries, schedule }))
 }
 
 fn explore(alloc: Global, words: &[&str]) -> Result<Option<Command>, NoMemory>
@@ -250,7 +322,15 @@ fn explore(alloc: Global, words: &[&str]) -> Result<Option<Command>, NoMemory>
         return Ok(None);
     };
     let json = is_given(matches.get_str("json"));
-    Ok(Some(Command::Explore { by, states, json }))
+    let Some(asked) = asked_for(alloc, matches.get_str("where"), matches.get_str("never"))? else {
+        return Ok(None);
+    };
+    Ok(Some(Command::Explore {
+        by,
+        states,
+        json,
+        asked,
+    }))
 }
 
 fn schedules(alloc: Global, words: &[&str]) -> Result<Option<Command>, NoMemory>
@@ -331,10 +411,10 @@ fn bench(alloc: Global, words: &[&str]) -> Result<Option<Command>, NoMemory>
 /// | Words | Command |
 /// |---|---|
 /// | `run [--threads N] [--tries N] [--json]` | `Run`, with 1 to 16 threads, with 1 to 64 tries, and 64 where none is given, and with the form of the report |
-/// | `step [--tries N] [--json]` | `Step`, with tries and a form as for `Run` |
-/// | `trace [--tries N] [--json]` | `Trace`, with tries and a form as for `Run` |
-/// | `draw [--tries N]` | `Draw`, with tries as for `Run` |
-/// | `explore [--by WORD] [--states N] [--json]` | `Explore`, by `state`, `answers` or `order`, and `state` where none is given, with 1 to 1,000,000,000 nodes, and 1,000,000 where none is given, and with a form as for `Run` |
+/// | `step [--tries N] [--json] [--schedule TEXT]` | `Step`, with tries and a form as for `Run`, and with the text, whatever it is |
+/// | `trace [--tries N] [--json] [--schedule TEXT]` | `Trace`, with the same as `Step` |
+/// | `draw [--tries N] [--schedule TEXT]` | `Draw`, with tries as for `Run`, and with a text as for `Step` |
+/// | `explore [--by WORD] [--states N] [--json]`, and at most one of `[--where TEXT]` and `[--never TEXT]` | `Explore`, by `state`, `answers` or `order`, and `state` where none is given, with 1 to 1,000,000,000 nodes, and 1,000,000 where none is given, with a form as for `Run`, and with what is asked by the text, whatever it is |
 /// | `schedules [--switches K] [--tries N] [--json]` | `Schedules`, with at most 8 switches, and 2 where none is given, and with tries and a form as for `Run` |
 /// | `upgrade` | `Upgrade` |
 /// | `gen NUMBER` | `Gen`, with a number of 64 bits |

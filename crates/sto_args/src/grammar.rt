@@ -3,7 +3,7 @@ ghost use Rattle.std.specs.Prelude.{◌≡◌, IfOk, map, true, codes};
 ghost use Rattle.clap.specs.Words.{app_of, is_simple_and_free};
 ghost use Rattle.clap.specs.Simple.{with_rule};
 ghost use Rattle.sto_args.specs.Asked.{check_takes, feed_takes};
-ghost use Rattle.sto_args.specs.Commands.{run_takes, step_takes, explore_takes, schedules_takes, gen_takes, bench_takes};
+ghost use Rattle.sto_args.specs.Commands.{run_takes, step_takes, draw_takes, explore_takes, schedules_takes, gen_takes, bench_takes};
 ghost use Rattle.sto_args.specs.Grammars.{Finds, app_for, option_rule, nothing};
 
 use clap::error::ErrorKind;
@@ -41,21 +41,32 @@ pub(crate) fn run_grammar<'a>(alloc: Global) -> Result<Command<'a>, AllocError>
     with_option(alloc, second, "json")
 }
 
-/// `step [--tries N] [--json]`
+/// `step [--tries N] [--json] [--schedule TEXT]`
 pub(crate) fn step_grammar<'a>(alloc: Global) -> Result<Command<'a>, AllocError>
     ensures { IfOk result (λ c. app_of c ≡ app_for (codes "step") step_takes) }
 {
     let first = with_option(alloc, bare(alloc, "step"), "tries")?;
-    with_option(alloc, first, "json")
+    let second = with_option(alloc, first, "json")?;
+    with_option(alloc, second, "schedule")
 }
 
-/// `explore [--by WORD] [--states N] [--json]`
+/// `draw [--tries N] [--schedule TEXT]`
+pub(crate) fn draw_grammar<'a>(alloc: Global) -> Result<Command<'a>, AllocError>
+    ensures { IfOk result (λ c. app_of c ≡ app_for (codes "draw") draw_takes) }
+{
+    let first = with_option(alloc, bare(alloc, "draw"), "tries")?;
+    with_option(alloc, first, "schedule")
+}
+
+/// `explore [--by WORD] [--states N] [--json] [--where TEXT] [--never TEXT]`
 pub(crate) fn explore_grammar<'a>(alloc: Global) -> Result<Command<'a>, AllocError>
     ensures { IfOk result (λ c. app_of c ≡ app_for (codes "explore") explore_takes) }
 {
     let first = with_option(alloc, bare(alloc, "explore"), "by")?;
     let second = with_option(alloc, first, "states")?;
-    with_option(alloc, second, "json")
+    let third = with_option(alloc, second, "json")?;
+    let fourth = with_option(alloc, third, "where")?;
+    with_option(alloc, fourth, "never")
 }
 
 /// `schedules [--switches K] [--tries N] [--json]`

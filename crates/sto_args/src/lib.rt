@@ -3,9 +3,11 @@
 
 mod asked;
 mod command;
+mod given;
 mod grammar;
 mod number;
 mod word;
 
 pub use asked::{Checking, Feeding, find_checking, find_feeding};
-pub use command::{By, Command, find_command};
+pub use command::{Asked, By, Command, find_command};
+pub use given::GivenText;

@@ -63,4 +63,5 @@ pub mod Answering
 pub mod ReadRuns
 pub mod ReadSteps
 pub mod SameRising
+pub mod Saying
 pub mod Refutations

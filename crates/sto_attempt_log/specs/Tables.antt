@@ -27,7 +27,7 @@ module _ {T B : Type 0} where
   abbrev pub with_lists : Log T B → Lists → Log T B
   with_lists l ls = with_table l (record l.table { lists = ls })
 
-  -- the log before, with what running the body changes taken from the one after: the body, the replies, the set and what is known
+  -- the log before, with what running the body changes taken from the one after: the body, the replies, the set, what is known and what a call says
   abbrev pub run_to : Log T B → Log T B → Log T B
   run_to old new =
       record (with_table old (record old.table {
@@ -35,5 +35,5 @@ module _ {T B : Type 0} where
         set = new.table.set;
         cache = new.table.cache;
         scratch = new.table.scratch;
-        pool = new.table.pool;
+        said = new.table.said;
       })) { body = new.body }

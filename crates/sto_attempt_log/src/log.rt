@@ -1,5 +1,4 @@
 //! The log of an attempt between two events: the body is run on what is known, up to the next part that has to be read, or to its end.
-ghost use Rattle.sto_model.specs.PlainReplies.{plain_reply};
 ghost use Rattle.sto_type.specs.Known.{known};
 ghost use Rattle.sto_attempt_log.specs.Says.{SaysNext};
 ghost use Rattle.sto_attempt_log.specs.Going.{CanBe, IsInOrder, HasRunOn, HasTakenIn, replies_of};
@@ -7,10 +6,13 @@ ghost use Rattle.sto_attempt_log.specs.Going.{CanBe, IsInOrder, HasRunOn, HasTak
 use crate::recall::{add_items, add_updates, ask, refresh};
 use crate::table::Table;
 use std::alloc::Global;
-use sto_item::{Items, Updates};
+use std::mem;
 use sto_model::{Body, Next, Reply};
 use sto_part::NoMemory;
-use sto_type::{Answer, TxType};
+use sto_type::TxType;
+
+// Room is made for so many further replies at most.
+const FEW: u32 = 5;
 
 /// Where a body has come to.
 #[derive(Clone, Copy)]
@@ -50,17 +52,10 @@ impl<T: TxType, B: Body> Log<'_, T, B> {
                         &table.set,
                         &mut table.scratch,
                         &mut table.cache,
-                        &mut table.pool,
+                        &mut table.said,
                     )? {
-                        Answer::Need(part) => return Ok(Reached::Needs(part)),
-                        Answer::Done {
-                            reply,
-                            items,
-                            updates,
-                        } => {
-                            self.take_in(reply, &items, &updates)?;
-                            self.table.pool.keep(items, updates);
-                        }
+                        Some(part) => return Ok(Reached::Needs(part)),
+                        None => self.take_in()?,
                     }
                 }
                 Next::Commit => return Ok(Reached::Commits),
@@ -69,27 +64,31 @@ impl<T: TxType, B: Body> Log<'_, T, B> {
         }
     }
 
-    // Takes in what the type says of the next call: the body hears the reply, and the items and updates are noted.
-    fn take_in(&mut self, reply: Reply, items: &Items, updates: &Updates) -> Result<(), NoMemory>
+    // Takes in what the next call says: the body hears the reply, and the items and updates are noted.
+    fn take_in(&mut self) -> Result<(), NoMemory>
         requires some { CanBe T.TxType B.Body self.old }
         requires log { IsInOrder T.TxType B.Body self.old self.old }
         requires says { SaysNext (T.meaning self.old.ty.now) (B.script self.old.body) (known self.old.table.cache)
-            (replies_of self.old) (plain_reply reply) items.now.items updates.now.items }
+            (replies_of self.old) self.old.table.said }
         ensures { HasTakenIn T.TxType B.Body self.old self.new result }
     {
         let table = &mut self.table;
-        add_items(&mut table.set, items)?;
-        add_updates(&mut table.set, updates)?;
+        add_items(&mut table.set, &table.said.items)?;
+        add_updates(&mut table.set, &table.said.updates)?;
         refresh(
             self.ty,
             &table.base,
             &table.set,
-            updates,
+            &table.said.updates,
             &mut table.scratch,
             &mut table.cache,
         )?;
+        let reply = mem::replace(&mut self.table.said.reply, Reply::Done);
         self.body.hear(&reply);
-        self.table.replies.push(reply)?;
+        // room for this reply, and at once for a few that may come
+        let more = 1 + self.body.left().min(FEW);
+        self.table.replies.reserve(more)?;
+        self.table.replies.push_spare(reply);
         Ok(())
     }
 }

@@ -2,7 +2,7 @@
 ghost use Rattle.std.specs.Prelude.{◌≡◌, ◌+◌, ◌^◌, ◌<◌, ◌≤◌, ℕ, [], ◌∷◌, ◌++◌, length, OnOk, OnErr, IfSome};
 ghost use Rattle.std.specs.List.{Contains, slice_range};
 ghost use Rattle.std.specs.Option.{option_map, option_map_or};
-ghost use Rattle.sto_part.specs.Index.{place_at};
+ghost use Rattle.sto_part.specs.Index.{place_at, HasRoom};
 ghost use Rattle.sto_attempt_log.specs.Placed.{placed};
 ghost use Rattle.sto_attempt_log.specs.ReadSet.{words_in, ticket_in};
 ghost use Rattle.sto_attempt_log.specs.Flat.{entry_with};
@@ -187,17 +187,17 @@ fn make_room(
     ensures places { (q : ℕ) → place_at places.new q ≡ place_at places.old q }
     ensures heads_room { OnOk result (1 ≤ heads.new.spare) }
     ensures words_room { OnOk result (width ≤ words.new.spare) }
-    ensures places_room { OnOk result (part < length places.new) }
+    ensures places_room { OnOk result (HasRoom places.new part) }
 {
     heads.reserve(1)?;
     words.reserve(width)?;
-    places.reserve(part + 1)?;
+    places.reserve(part)?;
     Ok(())
 }
 
 // Notes where a part stands, if it stands nowhere yet.
 fn place_first(places: &mut PartIndex, part: u32, place: u32)
-    requires { part < length places.old }
+    requires { HasRoom places.old part }
     ensures { (q : ℕ) → place_at places.new q ≡ placed (place_at places.old) part place q }
 {
     if places.get(part).is_none() {

@@ -7,7 +7,8 @@ ghost use Rattle.sto_item.specs.Pending.{changes_of, with_updates, AreUpdates};
 ghost use Rattle.sto_item.specs.Agreement.{HasWidths};
 ghost use Rattle.sto_item.specs.Rebase.{overwrites, rebased, rebased_one};
 ghost use Rattle.sto_type.specs.Known.{known, learnt};
-ghost use Rattle.sto_type.specs.Plans.{planned, IsPlan};
+ghost use Rattle.sto_type.specs.Plans.{IsPlan};
+ghost use Rattle.sto_type.specs.Saying.{said_plan};
 ghost use Rattle.sto_attempt_log.specs.ReadSet.{words_in};
 ghost use Rattle.sto_attempt_log.specs.Log.{ArePending, IsCache, Knows, IsUnknown};
 ghost use Rattle.sto_attempt_log.specs.Refreshed.{outside, Learns, LearnsAnew, LearnsUpdated};
@@ -19,7 +20,7 @@ use std::alloc::Global;
 use sto_item::{Item, Items, Updates};
 use sto_model::Call;
 use sto_part::{Change, NoMemory, PartWords};
-use sto_type::{Answer, AnswerPool, Cache, TxType};
+use sto_type::{Cache, Said, TxType};
 
 // Puts these words into a list, in place of what stands there.
 fn fill(words: &[i64], scratch: &mut PartWords) -> Result<(), NoMemory>
@@ -138,7 +139,8 @@ fn recall<T: TxType>(
     Ok(false)
 }
 
-/// What the type answers to a call, where no part that is known without an event is left to be needed.
+/// Has the type say a call, where no part that is known without an event is left to be needed. It answers the part that is needed; or
+/// none, and then the buffer has all that the call says.
 #[inline(always)]
 pub(crate) fn ask<T: TxType>(
     alloc: Global,
@@ -148,23 +150,24 @@ pub(crate) fn ask<T: TxType>(
     set: &Observed,
     scratch: &mut PartWords,
     cache: &mut Cache,
-    pool: &mut AnswerPool,
-) -> Result<Answer, NoMemory>
+    said: &mut Said,
+) -> Result<Option<u32>, NoMemory>
     requires takes { (T.meaning ty.now).takes call.now }
     requires pending { ArePending (T.meaning ty.now) base.now set.now }
     requires cache { Knows (T.meaning ty.now) base.now set.now cache.old }
-    ensures plan { IfOk result (λ a. IsPlan (T.meaning ty.now) call.now (known cache.new) (planned a)) }
+    ensures plan { IfOk result (λ need. IsPlan (T.meaning ty.now) call.now (known cache.new) (said_plan need said.new)) }
     ensures cache { OnOk result (Knows (T.meaning ty.now) base.now set.now cache.new) }
-    ensures need { IfOk result (λ a. (p : ℕ) → a ≡ Answer.Need p → IsUnknown base.now set.now p) }
+    ensures need { IfOk result (λ need. IfSome need (IsUnknown base.now set.now)) }
 {
+    let _parts = ty.parts();
     loop {
-        match ty.plan(alloc, pool, call, &cache.all())? {
-            Answer::Need(part) => {
+        match ty.say(alloc, call, 0, &cache.all(), said)? {
+            Some(part) => {
                 if !recall(ty, base, set, part, scratch, cache)? {
-                    return Ok(Answer::Need(part));
+                    return Ok(Some(part));
                 }
             }
-            done => return Ok(done),
+            None => return Ok(None),
         }
     }
 }

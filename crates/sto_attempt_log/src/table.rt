@@ -8,7 +8,7 @@ use crate::read_entry::ReadSet;
 use std::alloc::Global;
 use sto_model::Replies;
 use sto_part::PartWords;
-use sto_type::{AnswerPool, Cache};
+use sto_type::{Cache, Said};
 
 /// What an attempt works on: what it has found out, the words that it reads, and the lists of its commit.
 ///
@@ -24,8 +24,8 @@ pub struct Table {
     pub cache: Cache,
     /// A list for the words of a part to which updates are applied. What stands in it is used no more.
     pub scratch: PartWords,
-    /// Lists for the answers of the type.
-    pub pool: AnswerPool,
+    /// What the call that the body asks says. Once it was taken in it is used no more.
+    pub said: Said,
     /// The words of the open read, in order.
     pub words: PartWords,
     /// The last extension, under way or done.
@@ -43,7 +43,7 @@ impl Drop for Table {
             base: _base,
             cache: _cache,
             scratch: _scratch,
-            pool: _pool,
+            said: _said,
             words: _words,
             extension: _extension,
             lists: _lists,
@@ -60,7 +60,7 @@ impl Table {
             base: ReadSet::new(alloc),
             cache: Cache::new(alloc),
             scratch: PartWords::new(alloc),
-            pool: AnswerPool::new(alloc),
+            said: Said::new(alloc),
             words: PartWords::new(alloc),
             extension: Extension::new(alloc),
             lists: Lists::new(alloc),

@@ -29,6 +29,7 @@ use Rattle.sto_c.specs.declared.status.Status.{Status}
 use Rattle.sto_c.specs.Content.{objects}
 use Rattle.sto_c.specs.Crossing.{rows_out}
 use Rattle.sto_c.specs.Stores.{IsNew, HasShapes, IsRefused, HasGivenBack, AreClosedRows}
+use Rattle.sto_interactive.specs.Sessions.{live_of}
 
 -- a box that held 1, and one transaction, which set it to 5
 abbrev fives : State
@@ -145,10 +146,10 @@ no_second_fault shapes why h first after s here error broken fault =
     no_reason error first s (one_stands [] first s after (subst (λ (l : List Shape). AllStand [] l) here h.first)) broken fault
 
 -- a worker that is in a transaction
-pub no_give_back_within : (h : WorkerHandle) (y : HandleContent) → IfSome h.worker.session (λ x. x.live ≢ None) → h.worker.session ≢ None → HasGivenBack (Worker h) (Ok tt) y → ⊥
+pub no_give_back_within : (h : WorkerHandle) (y : HandleContent) → IfSome h.worker.session (λ x. live_of x ≢ None) → h.worker.session ≢ None → HasGivenBack (Worker h) (Ok tt) y → ⊥
 no_give_back_within h y within there given = both h.worker.session there within given.1
   where
-    both : (o : Option (Session Objects naming_ghosts)) → o ≢ None → IfSome o (λ x. x.live ≢ None) → IfSome o (λ x. x.live ≡ None) → ⊥
+    both : (o : Option (Session Objects naming_ghosts)) → o ≢ None → IfSome o (λ x. live_of x ≢ None) → IfSome o (λ x. live_of x ≡ None) → ⊥
     both None there within free = there refl
     both (Some x) there within free = within free
 

@@ -28,6 +28,7 @@ use Rattle.sto_c.specs.declared.status.Status.{Status}
 use Rattle.sto_c.specs.declared.status.Status.TheVariants as status
 use Rattle.sto_c.specs.Content.{objects}
 use Rattle.sto_c.specs.Crossing.{shape_in, rows_out}
+use Rattle.sto_interactive.specs.Sessions.{live_of}
 
 -- a handle that held nothing was filled with this, or holds nothing, for this reason; where it held something, nothing changes
 abbrev pub Fills : (HandleContent → Type 0) → (Status → Type 0) → HandleContent → Result (Unit {0}) Status → HandleContent → Type 0
@@ -143,7 +144,7 @@ HasFreed _ done y = (done ≡ Ok tt) × (y ≡ Nothing)
 abbrev pub HasGivenBack : HandleContent → Result (Unit {0}) Status → HandleContent → Type 0
 HasGivenBack Nothing done y = (done ≡ Err status.Empty) × (y ≡ Nothing)
 HasGivenBack (Worker h) (Ok done) y = (y ≡ Nothing) × IsFreeWorker h.worker
-HasGivenBack (Worker h) (Err status.InTransaction) y = (y ≡ Worker h) × IfSome h.worker.session (λ x. x.live ≢ None)
+HasGivenBack (Worker h) (Err status.InTransaction) y = (y ≡ Worker h) × IfSome h.worker.session (λ x. live_of x ≢ None)
 HasGivenBack (Worker h) (Err status.Busy) (Worker k) = (k.worker.store ≡ h.worker.store) × (k.objects ≡ h.objects)
     × Leads IsUnchanged h.worker.session k.worker.session × IsFreeWorker h.worker
 HasGivenBack (Worker h) (Err _) y = ⊥

@@ -4,7 +4,7 @@ use Rattle.std.specs.List.{AllByRecursion}
 use Rattle.sto_lang.specs.Scripts.{File}
 use Rattle.sto_report_spec.specs.declared.form.ReportForm.{ReportForm}
 use Rattle.sto_console.specs.declared.refusal.InputFault.{InputFault}
-use Rattle.sto_console.specs.declared.refusal.InputFault.TheVariants.{Script, NoReport, LongTrace, LongRun, ManySchedules, ManyStates}
+use Rattle.sto_console.specs.declared.refusal.InputFault.TheVariants.{Script, NoReport, LongTrace, LongRun, ManySchedules, ManyStates, Schedule, Question}
 use Rattle.sto_console.specs.declared.refusal.ScheduleCounts.{ScheduleCounts}
 use Rattle.sto_run.specs.Forms.{form_for}
 use Rattle.sto_explore.specs.declared.outcome.Outcomes.{Outcomes}
@@ -49,3 +49,5 @@ IsExploringFault switches tries json file (Script fault) = ⊥
 IsExploringFault switches tries json file NoReport = ⊥
 IsExploringFault switches tries json file LongTrace = ⊥
 IsExploringFault switches tries json file (ManyStates count) = ⊥
+IsExploringFault switches tries json file (Schedule kind) = ⊥
+IsExploringFault switches tries json file (Question fault) = ⊥

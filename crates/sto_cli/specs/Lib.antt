@@ -1,3 +1,4 @@
+pub mod Schedules
 pub mod Traces
 pub mod Explorations
 pub mod Orders

@@ -4,11 +4,15 @@ ghost use Rattle.sto_args.specs.declared.command.Command.TheVariants as commands
 ghost use Rattle.sto_args.specs.Commands.{HasThreads};
 ghost use Rattle.sto_lang.specs.Sound.{IsFromTo};
 ghost use Rattle.sto_console.specs.Ends.{IsFileRefusal};
+ghost use Rattle.sto_cli.specs.Schedules.{IsScheduledFault};
+ghost use Rattle.sto_cli.specs.Traces.{IsRefusalFor};
 ghost use Rattle.sto_cli.specs.Outputs.{IsOutput};
 
+use crate::script::scheduled_in;
 use std::alloc::Global;
 use std::mem;
 use std::thread::Threads;
+use sto_args::GivenText;
 use sto_bench::run_generated;
 use sto_console::{Refusal, file_in, leave, workers_for};
 use sto_lang::Text;
@@ -37,18 +41,19 @@ pub(crate) fn run_text<R: Threads + Sync, G: Gate>(
     Ok(text)
 }
 
-/// What `step` prints for these bytes.
+/// What `step` prints for these bytes, by the schedule of the words, where there are words.
 pub(crate) fn step_text(
     alloc: Global,
     bytes: &[u8],
     tries: u32,
     json: bool,
+    schedule: &Option<GivenText>,
 ) -> Result<Text, Refusal>
     requires { IsFromTo 1 64 tries }
-    ensures text { IfOk result (λ text. IsOutput (commands.Step tries json) bytes.now text.items) }
-    ensures fault { IfErr result (λ e. IsFileRefusal e bytes.now) }
+    ensures text { IfOk result (λ text. IsOutput (commands.Step tries json schedule.now) bytes.now text.items) }
+    ensures fault { IfErr result (λ e. IsRefusalFor (IsScheduledFault schedule.now bytes.now) e) }
 {
-    let file = file_in(alloc, bytes)?;
+    let file = scheduled_in(alloc, bytes, schedule)?;
     let journal = step_file(alloc, &file, tries)?;
     let text = report(alloc, &file, &journal, json)?;
     leave(file, journal);

@@ -8,17 +8,23 @@ ghost use Rattle.sto_cli.specs.Outputs.{IsOutput};
 
 use crate::traced::traceable_in;
 use std::alloc::Global;
+use sto_args::GivenText;
 use sto_console::{InputFault, Refusal};
 use sto_draw::draw_file;
 use sto_lang::Text;
 
-/// What `draw` prints for these bytes.
-pub(crate) fn draw_text(alloc: Global, bytes: &[u8], tries: u32) -> Result<Text, Refusal>
+/// What `draw` prints for these bytes, by the schedule of the words, where there are words.
+pub(crate) fn draw_text(
+    alloc: Global,
+    bytes: &[u8],
+    tries: u32,
+    schedule: &Option<GivenText>,
+) -> Result<Text, Refusal>
     requires { IsFromTo 1 64 tries }
-    ensures text { IfOk result (λ text. IsOutput (commands.Draw tries) bytes.now text.items) }
-    ensures fault { IfErr result (λ e. IsRefusalFor (IsRunFault (IsTooLong tries) NeverMany bytes.now) e) }
+    ensures text { IfOk result (λ text. IsOutput (commands.Draw tries schedule.now) bytes.now text.items) }
+    ensures fault { IfErr result (λ e. IsRefusalFor (IsRunFault (IsTooLong tries) NeverMany schedule.now bytes.now) e) }
 {
-    let file = traceable_in(alloc, bytes)?;
+    let file = traceable_in(alloc, bytes, schedule)?;
     match draw_file(alloc, &file, tries)? {
         Some(text) => Ok(text),
         None => Err(Refusal::Input(InputFault::LongRun)),

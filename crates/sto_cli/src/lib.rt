@@ -7,6 +7,8 @@ mod answer;
 mod drawn;
 mod explored;
 mod scheduled;
+mod script;
+mod told;
 mod top;
 mod traced;
 mod work;
@@ -17,4 +19,5 @@ pub use sto_console::{
 };
 pub use sto_run::{Gate, NoGate};
 pub use sto_run_schedules::{Meter, NoMeter};
+pub use told::Answer;
 pub use top::sto;

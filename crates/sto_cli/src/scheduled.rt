@@ -136,9 +136,9 @@ pub(crate) fn schedules_text<W: Meter>(
 ) -> Result<Text, Refusal>
     requires { IsFromTo 1 64 tries }
     ensures text { IfOk result (λ text. IsOutput (commands.Schedules switches tries json) bytes.now text.items) }
-    ensures fault { IfErr result (λ e. IsRefusalFor (IsRunFault (HasSomeLongRun tries) (HasManySchedules switches tries json) bytes.now) e) }
+    ensures fault { IfErr result (λ e. IsRefusalFor (IsRunFault (HasSomeLongRun tries) (HasManySchedules switches tries json) None bytes.now) e) }
 {
-    let file = traceable_in(alloc, bytes)?;
+    let file = traceable_in(alloc, bytes, &None)?;
     let outcomes = outcomes_of(alloc, &file, switches, tries, json, meter)?;
     let text = outcomes_text(alloc, &file, &outcomes, json)?;
     Ok(text)

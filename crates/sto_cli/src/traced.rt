@@ -11,8 +11,10 @@ ghost use Rattle.sto_trace_text.specs.Named.{named};
 ghost use Rattle.sto_cli.specs.Traces.{IsTraceable, IsTraceFault, HasLongRun, IsRunFault, NeverMany, IsRefusalFor, lines_in, AreLinesOf};
 ghost use Rattle.sto_cli.specs.Outputs.{IsOutput};
 
+use crate::script::scheduled_in;
 use std::alloc::Global;
-use sto_console::{InputFault, Refusal, file_in};
+use sto_args::GivenText;
+use sto_console::{InputFault, Refusal};
 use sto_lang::{File, Text};
 use sto_part::NoMemory;
 use sto_run::{TracedRun, trace_file};
@@ -35,12 +37,17 @@ fn transactions_of(file: &File) -> u32
     count
 }
 
-/// The script that these bytes are, where it can be traced.
-pub(crate) fn traceable_in(alloc: Global, bytes: &[u8]) -> Result<File, Refusal>
-    ensures file { IfOk result (λ file. IsTraceable bytes.now (view file)) }
-    ensures fault { IfErr result (λ e. IsRefusalFor (IsTraceFault bytes.now) e) }
+/// The script that these bytes are, with the schedule of the words where there are words, if it can be traced.
+pub(crate) fn traceable_in(
+    alloc: Global,
+    bytes: &[u8],
+    schedule: &Option<GivenText>,
+) -> Result<File, Refusal>
+    ensures file { IfOk result (λ file. IsTraceable schedule.now bytes.now (view file)) }
+    ensures sound { IfOk result (λ file. IsSound (view file)) }
+    ensures fault { IfErr result (λ e. IsRefusalFor (IsTraceFault schedule.now bytes.now) e) }
 {
-    let file = file_in(alloc, bytes)?;
+    let file = scheduled_in(alloc, bytes, schedule)?;
     let count = transactions_of(&file);
     if count > MOST_TRACED {
         return Err(Refusal::Input(InputFault::LongTrace));
@@ -92,18 +99,19 @@ fn lines_of(alloc: Global, file: &File, run: &TracedRun, json: bool) -> Result<T
     }
 }
 
-/// What `trace` prints for these bytes.
+/// What `trace` prints for these bytes, by the schedule of the words, where there are words.
 pub(crate) fn trace_text(
     alloc: Global,
     bytes: &[u8],
     tries: u32,
     json: bool,
+    schedule: &Option<GivenText>,
 ) -> Result<Text, Refusal>
     requires { IsFromTo 1 64 tries }
-    ensures text { IfOk result (λ text. IsOutput (commands.Trace tries json) bytes.now text.items) }
-    ensures fault { IfErr result (λ e. IsRefusalFor (IsRunFault (HasLongRun tries) NeverMany bytes.now) e) }
+    ensures text { IfOk result (λ text. IsOutput (commands.Trace tries json schedule.now) bytes.now text.items) }
+    ensures fault { IfErr result (λ e. IsRefusalFor (IsRunFault (HasLongRun tries) NeverMany schedule.now bytes.now) e) }
 {
-    let file = traceable_in(alloc, bytes)?;
+    let file = traceable_in(alloc, bytes, schedule)?;
     let run = trace_file(alloc, &file, tries)?;
     lines_of(alloc, &file, &run, json)
 }

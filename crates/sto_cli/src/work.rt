@@ -6,15 +6,17 @@ ghost use Rattle.sto_args.specs.declared.command.Command.TheVariants as commands
 ghost use Rattle.sto_console.specs.declared.refusal.Refusal.TheVariants.{ReadFault, WriteFault};
 ghost use Rattle.sto_console.specs.Ends.{Made, Unmade, Ends, RoseFor};
 ghost use Rattle.sto_cli.specs.Programs.{program};
+ghost use Rattle.sto_cli.specs.declared.told.Answer.TheVariants.{Done};
 
 use crate::answer::{bench_text, gen_text, run_text, step_text, upgrade_text};
 use crate::drawn::draw_text;
-use crate::explored::explore_text;
+use crate::explored::explore_told;
 use crate::scheduled::schedules_text;
+use crate::told::{Answer, Told};
 use crate::traced::trace_text;
 use std::alloc::Global;
 use std::thread::Threads;
-use sto_args::{By, Command, find_command};
+use sto_args::{Asked, By, Command, GivenText, find_command};
 use sto_console::{Refusal, Sink, Source, script_left, write_text};
 use sto_lang::Text;
 use sto_run::Gate;
@@ -33,7 +35,7 @@ fn run_source<R: Threads + Sync, S: Source, G: Gate>(
     requires threads { HasThreads threads }
     requires tries { IsFromTo 1 64 tries }
     ensures made { IfOk result (λ text.
-        Made program (commands.Run threads tries json) tt (S.left source.old) (S.left source.new) text.items) }
+        Made program (commands.Run threads tries json) Done (S.left source.old) (S.left source.new) text.items) }
     ensures unmade { IfErr result (λ e. Unmade program e (commands.Run threads tries json) (S.left source.old) (S.left source.new)) }
     ensures source_faults { RoseFor ReadFault result (S.faults source.old) (S.faults source.new) }
 {
@@ -47,14 +49,16 @@ fn step_source<S: Source>(
     source: &mut S,
     tries: u32,
     json: bool,
+    schedule: Option<GivenText>,
 ) -> Result<Text, Refusal>
     requires { IsFromTo 1 64 tries }
-    ensures made { IfOk result (λ text. Made program (commands.Step tries json) tt (S.left source.old) (S.left source.new) text.items) }
-    ensures unmade { IfErr result (λ e. Unmade program e (commands.Step tries json) (S.left source.old) (S.left source.new)) }
+    ensures made { IfOk result (λ text.
+        Made program (commands.Step tries json schedule) Done (S.left source.old) (S.left source.new) text.items) }
+    ensures unmade { IfErr result (λ e. Unmade program e (commands.Step tries json schedule) (S.left source.old) (S.left source.new)) }
     ensures source_faults { RoseFor ReadFault result (S.faults source.old) (S.faults source.new) }
 {
     let bytes = script_left(alloc, source)?;
-    step_text(alloc, bytes.as_slice(), tries, json)
+    step_text(alloc, bytes.as_slice(), tries, json, &schedule)
 }
 
 /// Reads the source, and runs the script in one thread, event by event.
@@ -63,25 +67,33 @@ fn trace_source<S: Source>(
     source: &mut S,
     tries: u32,
     json: bool,
+    schedule: Option<GivenText>,
 ) -> Result<Text, Refusal>
     requires { IsFromTo 1 64 tries }
-    ensures made { IfOk result (λ text. Made program (commands.Trace tries json) tt (S.left source.old) (S.left source.new) text.items) }
-    ensures unmade { IfErr result (λ e. Unmade program e (commands.Trace tries json) (S.left source.old) (S.left source.new)) }
+    ensures made { IfOk result (λ text.
+        Made program (commands.Trace tries json schedule) Done (S.left source.old) (S.left source.new) text.items) }
+    ensures unmade { IfErr result (λ e. Unmade program e (commands.Trace tries json schedule) (S.left source.old) (S.left source.new)) }
     ensures source_faults { RoseFor ReadFault result (S.faults source.old) (S.faults source.new) }
 {
     let bytes = script_left(alloc, source)?;
-    trace_text(alloc, bytes.as_slice(), tries, json)
+    trace_text(alloc, bytes.as_slice(), tries, json, &schedule)
 }
 
 /// Reads the source, runs the script in one thread, event by event, and draws the run.
-fn draw_source<S: Source>(alloc: Global, source: &mut S, tries: u32) -> Result<Text, Refusal>
+fn draw_source<S: Source>(
+    alloc: Global,
+    source: &mut S,
+    tries: u32,
+    schedule: Option<GivenText>,
+) -> Result<Text, Refusal>
     requires { IsFromTo 1 64 tries }
-    ensures made { IfOk result (λ text. Made program (commands.Draw tries) tt (S.left source.old) (S.left source.new) text.items) }
-    ensures unmade { IfErr result (λ e. Unmade program e (commands.Draw tries) (S.left source.old) (S.left source.new)) }
+    ensures made { IfOk result (λ text.
+        Made program (commands.Draw tries schedule) Done (S.left source.old) (S.left source.new) text.items) }
+    ensures unmade { IfErr result (λ e. Unmade program e (commands.Draw tries schedule) (S.left source.old) (S.left source.new)) }
     ensures source_faults { RoseFor ReadFault result (S.faults source.old) (S.faults source.new) }
 {
     let bytes = script_left(alloc, source)?;
-    draw_text(alloc, bytes.as_slice(), tries)
+    draw_text(alloc, bytes.as_slice(), tries, &schedule)
 }
 
 /// Reads the source, and tells what all orders of the script's transactions lead to.
@@ -91,13 +103,15 @@ fn explore_source<S: Source>(
     by: By,
     states: u64,
     json: bool,
-) -> Result<Text, Refusal>
-    ensures made { IfOk result (λ text. Made program (commands.Explore by states json) tt (S.left source.old) (S.left source.new) text.items) }
-    ensures unmade { IfErr result (λ e. Unmade program e (commands.Explore by states json) (S.left source.old) (S.left source.new)) }
+    asked: Option<Asked>,
+) -> Result<Told, Refusal>
+    ensures made { IfOk result (λ told.
+        Made program (commands.Explore by states json asked) told.answer (S.left source.old) (S.left source.new) told.text.items) }
+    ensures unmade { IfErr result (λ e. Unmade program e (commands.Explore by states json asked) (S.left source.old) (S.left source.new)) }
     ensures source_faults { RoseFor ReadFault result (S.faults source.old) (S.faults source.new) }
 {
     let bytes = script_left(alloc, source)?;
-    explore_text(alloc, bytes.as_slice(), by, states, json)
+    explore_told(alloc, bytes.as_slice(), by, states, json, &asked)
 }
 
 /// Reads the source, runs the script in one thread by each schedule within a bound, and tells what these runs lead to.
@@ -111,7 +125,7 @@ fn schedules_source<S: Source, W: Meter>(
 ) -> Result<Text, Refusal>
     requires { IsFromTo 1 64 tries }
     ensures made { IfOk result (λ text.
-        Made program (commands.Schedules switches tries json) tt (S.left source.old) (S.left source.new) text.items) }
+        Made program (commands.Schedules switches tries json) Done (S.left source.old) (S.left source.new) text.items) }
     ensures unmade { IfErr result (λ e. Unmade program e (commands.Schedules switches tries json) (S.left source.old) (S.left source.new)) }
     ensures source_faults { RoseFor ReadFault result (S.faults source.old) (S.faults source.new) }
 {
@@ -121,7 +135,7 @@ fn schedules_source<S: Source, W: Meter>(
 
 /// Reads the source, and writes the script in version 2.
 fn upgrade_source<S: Source>(alloc: Global, source: &mut S) -> Result<Text, Refusal>
-    ensures made { IfOk result (λ text. Made program commands.Upgrade tt (S.left source.old) (S.left source.new) text.items) }
+    ensures made { IfOk result (λ text. Made program commands.Upgrade Done (S.left source.old) (S.left source.new) text.items) }
     ensures unmade { IfErr result (λ e. Unmade program e commands.Upgrade (S.left source.old) (S.left source.new)) }
     ensures source_faults { RoseFor ReadFault result (S.faults source.old) (S.faults source.new) }
 {
@@ -131,16 +145,16 @@ fn upgrade_source<S: Source>(alloc: Global, source: &mut S) -> Result<Text, Refu
 
 /// Makes the whole text of a command. `run`, `step`, `trace`, `draw`, `explore`, `schedules` and `upgrade` read the source to its end or past the
 /// limit; `gen` and `bench` do not touch it.
-fn text_for<R: Threads + Sync, S: Source, G: Gate, W: Meter>(
+fn told_for<R: Threads + Sync, S: Source, G: Gate, W: Meter>(
     rt: &R,
     alloc: Global,
     command: Command,
     source: &mut S,
     gate: &G,
     meter: &W,
-) -> Result<Text, Refusal>
+) -> Result<Told, Refusal>
     requires { HasRange command }
-    ensures made { IfOk result (λ text. Made program command tt (S.left source.old) (S.left source.new) text.items) }
+    ensures made { IfOk result (λ told. Made program command told.answer (S.left source.old) (S.left source.new) told.text.items) }
     ensures unmade { IfErr result (λ e. Unmade program e command (S.left source.old) (S.left source.new)) }
     ensures source_faults { RoseFor ReadFault result (S.faults source.old) (S.faults source.new) }
 {
@@ -149,19 +163,60 @@ fn text_for<R: Threads + Sync, S: Source, G: Gate, W: Meter>(
             threads,
             tries,
             json,
-        } => run_source(rt, alloc, source, threads, tries, json, gate),
-        Command::Step { tries, json } => step_source(alloc, source, tries, json),
-        Command::Trace { tries, json } => trace_source(alloc, source, tries, json),
-        Command::Draw { tries } => draw_source(alloc, source, tries),
-        Command::Explore { by, states, json } => explore_source(alloc, source, by, states, json),
+        } => Ok(Told {
+            answer: Answer::Done,
+            text: run_source(rt, alloc, source, threads, tries, json, gate)?,
+        }),
+        Command::Step {
+            tries,
+            json,
+            schedule,
+        } => Ok(Told {
+            answer: Answer::Done,
+            text: step_source(alloc, source, tries, json, schedule)?,
+        }),
+        Command::Trace {
+            tries,
+            json,
+            schedule,
+        } => Ok(Told {
+            answer: Answer::Done,
+            text: trace_source(alloc, source, tries, json, schedule)?,
+        }),
+        Command::Draw { tries, schedule } => {
+            Ok(Told {
+                answer: Answer::Done,
+                text: draw_source(alloc, source, tries, schedule)?,
+            })
+        }
+        Command::Explore {
+            by,
+            states,
+            json,
+            asked,
+        } => explore_source(alloc, source, by, states, json, asked),
         Command::Schedules {
             switches,
             tries,
             json,
-        } => schedules_source(alloc, source, switches, tries, json, meter),
-        Command::Upgrade => upgrade_source(alloc, source),
-        Command::Gen { number } => Ok(gen_text(alloc, number)?),
-        Command::Bench { number, threads } => Ok(bench_text(rt, alloc, number, threads, gate)?),
+        } => Ok(Told {
+            answer: Answer::Done,
+            text: schedules_source(alloc, source, switches, tries, json, meter)?,
+        }),
+        Command::Upgrade => Ok(Told {
+            answer: Answer::Done,
+            text: upgrade_source(alloc, source)?,
+        }),
+        Command::Gen { number } => Ok(Told {
+            answer: Answer::Done,
+            text: gen_text(alloc, number)?,
+        }),
+        Command::Bench { number, threads } => {
+            Ok(Told {
+                answer: Answer::Done,
+                text: bench_text(rt, alloc, number, threads, gate)?,
+            })
+        }
     }
 }
 
@@ -175,7 +230,7 @@ pub(crate) fn perform<R: Threads + Sync, S: Source, K: Sink, G: Gate, W: Meter>(
     out: &mut K,
     gate: &G,
     meter: &W,
-) -> Result<(), Refusal>
+) -> Result<Answer, Refusal>
     ensures ends { Ends program result (command_in words.now) (S.left source.old) (S.left source.new) (K.held out.old) (K.held out.new) }
     ensures source_faults { RoseFor ReadFault result (S.faults source.old) (S.faults source.new) }
     ensures out_faults { RoseFor WriteFault result (K.faults out.old) (K.faults out.new) }
@@ -183,6 +238,7 @@ pub(crate) fn perform<R: Threads + Sync, S: Source, K: Sink, G: Gate, W: Meter>(
     let Some(command) = find_command(alloc, words)? else {
         return Err(Refusal::Usage);
     };
-    let text = text_for(rt, alloc, command, source, gate, meter)?;
-    write_text(out, text.as_bytes())
+    let told = told_for(rt, alloc, command, source, gate, meter)?;
+    write_text(out, told.text.as_bytes())?;
+    Ok(told.answer)
 }

@@ -1,7 +1,7 @@
 -- What is said of a call is a way in which it ends.
 use Rattle.std.proofs.Common.{◌≡◌, ℕ, List, inl, inr, sym, subst, Option, None, Some, Result, Ok, Err}
 use Rattle.sto_console.specs.declared.refusal.InputFault.{InputFault}
-use Rattle.sto_console.specs.declared.refusal.InputFault.TheVariants.{Script, NoReport, LongTrace, LongRun, ManySchedules, ManyStates}
+use Rattle.sto_console.specs.declared.refusal.InputFault.TheVariants.{Script, NoReport, LongTrace, LongRun, ManySchedules, ManyStates, Schedule, Question}
 use Rattle.sto_console.specs.declared.refusal.Refusal.{Refusal}
 use Rattle.sto_console.specs.declared.refusal.Refusal.TheVariants.{Usage, Input, ReadFault, WriteFault, NoMemory}
 use Rattle.sto_console.specs.Programs.{Program}
@@ -28,8 +28,12 @@ module _ {C A : Type 0} (p : Program C A) (command : Option C) (left rest held n
   refused_so (Input LongRun) told e h = same {refusal = Input LongRun} e h
   refused_so (Input (ManySchedules counts)) told (inl e) h = same {refusal = Input (ManySchedules counts)} e h
   refused_so (Input (ManyStates count)) told (inl e) h = same {refusal = Input (ManyStates count)} e h
+  refused_so (Input (Schedule kind)) told (inl e) h = same {refusal = Input (Schedule kind)} e h
+  refused_so (Input (Question fault)) told (inl e) h = same {refusal = Input (Question fault)} e h
   refused_so (Input (ManySchedules counts)) told (inr e) h = same {refusal = NoMemory} e (unwritten (ManySchedules counts) h)
   refused_so (Input (ManyStates count)) told (inr e) h = same {refusal = NoMemory} e (unwritten (ManyStates count) h)
+  refused_so (Input (Schedule kind)) told (inr e) h = same {refusal = NoMemory} e (unwritten (Schedule kind) h)
+  refused_so (Input (Question fault)) told (inr e) h = same {refusal = NoMemory} e (unwritten (Question fault) h)
   refused_so Usage told e h = same {refusal = Usage} e h
   refused_so ReadFault told e h = same {refusal = ReadFault} e h
   refused_so WriteFault told e h = same {refusal = WriteFault} e h
@@ -53,8 +57,12 @@ module _ (old new : ℕ) where
   read_refused (Input LongRun) told e h = same_read {refusal = Input LongRun} e h
   read_refused (Input (ManySchedules counts)) told (inl e) h = same_read {refusal = Input (ManySchedules counts)} e h
   read_refused (Input (ManyStates count)) told (inl e) h = same_read {refusal = Input (ManyStates count)} e h
+  read_refused (Input (Schedule kind)) told (inl e) h = same_read {refusal = Input (Schedule kind)} e h
+  read_refused (Input (Question fault)) told (inl e) h = same_read {refusal = Input (Question fault)} e h
   read_refused (Input (ManySchedules counts)) told (inr e) h = same_read {refusal = NoMemory} e h
   read_refused (Input (ManyStates count)) told (inr e) h = same_read {refusal = NoMemory} e h
+  read_refused (Input (Schedule kind)) told (inr e) h = same_read {refusal = NoMemory} e h
+  read_refused (Input (Question fault)) told (inr e) h = same_read {refusal = NoMemory} e h
   read_refused Usage told e h = same_read {refusal = Usage} e h
   read_refused ReadFault told e h = same_read {refusal = ReadFault} e h
   read_refused WriteFault told e h = same_read {refusal = WriteFault} e h
@@ -75,8 +83,12 @@ module _ (old new : ℕ) where
   write_refused (Input LongRun) told e h = same_write {refusal = Input LongRun} e h
   write_refused (Input (ManySchedules counts)) told (inl e) h = same_write {refusal = Input (ManySchedules counts)} e h
   write_refused (Input (ManyStates count)) told (inl e) h = same_write {refusal = Input (ManyStates count)} e h
+  write_refused (Input (Schedule kind)) told (inl e) h = same_write {refusal = Input (Schedule kind)} e h
+  write_refused (Input (Question fault)) told (inl e) h = same_write {refusal = Input (Question fault)} e h
   write_refused (Input (ManySchedules counts)) told (inr e) h = same_write {refusal = NoMemory} e h
   write_refused (Input (ManyStates count)) told (inr e) h = same_write {refusal = NoMemory} e h
+  write_refused (Input (Schedule kind)) told (inr e) h = same_write {refusal = NoMemory} e h
+  write_refused (Input (Question fault)) told (inr e) h = same_write {refusal = NoMemory} e h
   write_refused Usage told e h = same_write {refusal = Usage} e h
   write_refused ReadFault told e h = same_write {refusal = ReadFault} e h
   write_refused WriteFault told e h = same_write {refusal = WriteFault} e h

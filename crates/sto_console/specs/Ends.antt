@@ -5,7 +5,7 @@ use Rattle.sto_lang.specs.Files.{file_of}
 use Rattle.sto_console.specs.Read.{IfTold}
 use Rattle.sto_console.specs.Programs.{Program}
 use Rattle.sto_console.specs.declared.refusal.InputFault.{InputFault}
-use Rattle.sto_console.specs.declared.refusal.InputFault.TheVariants.{Script, NoReport, LongTrace, LongRun, ManySchedules, ManyStates}
+use Rattle.sto_console.specs.declared.refusal.InputFault.TheVariants.{Script, NoReport, LongTrace, LongRun, ManySchedules, ManyStates, Schedule, Question}
 use Rattle.sto_console.specs.declared.refusal.Refusal.{Refusal}
 use Rattle.sto_console.specs.declared.refusal.Refusal.TheVariants.{Usage, Input, ReadFault, WriteFault, NoMemory}
 
@@ -54,6 +54,8 @@ IsFileRefusal (Input LongTrace) bytes = ⊥
 IsFileRefusal (Input LongRun) bytes = ⊥
 IsFileRefusal (Input (ManySchedules counts)) bytes = ⊥
 IsFileRefusal (Input (ManyStates count)) bytes = ⊥
+IsFileRefusal (Input (Schedule kind)) bytes = ⊥
+IsFileRefusal (Input (Question fault)) bytes = ⊥
 IsFileRefusal NoMemory bytes = Unit {0}
 IsFileRefusal Usage bytes = ⊥
 IsFileRefusal ReadFault bytes = ⊥

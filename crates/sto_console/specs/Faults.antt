@@ -2,7 +2,7 @@
 use Rattle.std.specs.Prelude.{◌≡◌, ℕ, List, Err}
 use Rattle.sto_lang.specs.Files.{file_of}
 use Rattle.sto_console.specs.declared.refusal.InputFault.{InputFault}
-use Rattle.sto_console.specs.declared.refusal.InputFault.TheVariants.{Script, NoReport, LongTrace, LongRun, ManySchedules, ManyStates}
+use Rattle.sto_console.specs.declared.refusal.InputFault.TheVariants.{Script, NoReport, LongTrace, LongRun, ManySchedules, ManyStates, Schedule, Question}
 
 -- the bytes are no script, for this fault
 abbrev pub IsScriptFault : List ℕ → InputFault → Type 0
@@ -12,3 +12,5 @@ IsScriptFault bytes LongTrace = ⊥
 IsScriptFault bytes LongRun = ⊥
 IsScriptFault bytes (ManySchedules counts) = ⊥
 IsScriptFault bytes (ManyStates count) = ⊥
+IsScriptFault bytes (Schedule kind) = ⊥
+IsScriptFault bytes (Question fault) = ⊥

@@ -3,7 +3,7 @@ use Rattle.std.specs.Prelude.{ℕ, List, Bool, true, false, Option, None, Some}
 use Rattle.sto_console.specs.Programs.{Program}
 use Rattle.sto_console.specs.Ends.{Done, Stopped, Faulty}
 use Rattle.sto_console.specs.declared.refusal.InputFault.{InputFault}
-use Rattle.sto_console.specs.declared.refusal.InputFault.TheVariants.{Script, NoReport, LongTrace, LongRun, ManySchedules, ManyStates}
+use Rattle.sto_console.specs.declared.refusal.InputFault.TheVariants.{Script, NoReport, LongTrace, LongRun, ManySchedules, ManyStates, Schedule, Question}
 
 -- the words are a command, which is answered so, and its text is written
 abbrev pub IsDone : {C A : Type 0} → Program C A → A → Option C → Option (List ℕ) → Option (List ℕ) → Option (List ℕ) → Option (List ℕ) → Type 0
@@ -35,6 +35,8 @@ IsOwn LongTrace = Unit {0}
 IsOwn LongRun = ⊥
 IsOwn (ManySchedules counts) = ⊥
 IsOwn (ManyStates count) = ⊥
+IsOwn (Schedule kind) = Unit {0}
+IsOwn (Question fault) = Unit {0}
 
 -- they have this fault
 abbrev pub IsToldFault : {C A : Type 0} → Program C A → InputFault → Option C → Option (List ℕ) → Option (List ℕ) → Type 0

@@ -1,7 +1,7 @@
 -- The status of a call of a program, and the line that it writes beside. `A` is what a program answers.
 use Rattle.std.specs.Prelude.{◌≡◌, ℕ, List, [], ◌⊎◌, Result, Ok, Err, codes}
-use Rattle.sto_console.specs.Said.{fault_line, schedules_line, states_line}
-use Rattle.sto_console.specs.declared.refusal.InputFault.TheVariants.{Script, NoReport, LongTrace, LongRun, ManySchedules, ManyStates}
+use Rattle.sto_console.specs.Said.{fault_line, schedules_line, states_line, schedule_line, question_line}
+use Rattle.sto_console.specs.declared.refusal.InputFault.TheVariants.{Script, NoReport, LongTrace, LongRun, ManySchedules, ManyStates, Schedule, Question}
 use Rattle.sto_console.specs.declared.refusal.Refusal.{Refusal}
 use Rattle.sto_console.specs.declared.refusal.Refusal.TheVariants.{Usage, Input, ReadFault, WriteFault, NoMemory}
 
@@ -31,6 +31,8 @@ refusal_line (Input LongTrace) = codes "sto: line 0: too many transactions\n"
 refusal_line (Input LongRun) = codes "sto: line 0: too many events\n"
 refusal_line (Input (ManySchedules counts)) = schedules_line counts
 refusal_line (Input (ManyStates count)) = states_line count
+refusal_line (Input (Schedule kind)) = schedule_line kind
+refusal_line (Input (Question fault)) = question_line fault
 refusal_line ReadFault = codes "sto: read fault\n"
 refusal_line WriteFault = codes "sto: write fault\n"
 refusal_line NoMemory = codes "sto: out of memory\n"
@@ -52,6 +54,8 @@ IsFixed (Input LongTrace) = Unit {0}
 IsFixed (Input LongRun) = Unit {0}
 IsFixed (Input (ManySchedules counts)) = ⊥
 IsFixed (Input (ManyStates count)) = ⊥
+IsFixed (Input (Schedule kind)) = ⊥
+IsFixed (Input (Question fault)) = ⊥
 IsFixed Usage = Unit {0}
 IsFixed ReadFault = Unit {0}
 IsFixed WriteFault = Unit {0}
@@ -65,6 +69,8 @@ IsRefusedSo (Input LongTrace) told = told ≡ Input LongTrace
 IsRefusedSo (Input LongRun) told = told ≡ Input LongRun
 IsRefusedSo (Input (ManySchedules counts)) told = (told ≡ Input (ManySchedules counts)) ⊎ (told ≡ NoMemory)
 IsRefusedSo (Input (ManyStates count)) told = (told ≡ Input (ManyStates count)) ⊎ (told ≡ NoMemory)
+IsRefusedSo (Input (Schedule kind)) told = (told ≡ Input (Schedule kind)) ⊎ (told ≡ NoMemory)
+IsRefusedSo (Input (Question fault)) told = (told ≡ Input (Question fault)) ⊎ (told ≡ NoMemory)
 IsRefusedSo Usage told = told ≡ Usage
 IsRefusedSo ReadFault told = told ≡ ReadFault
 IsRefusedSo WriteFault told = told ≡ WriteFault

@@ -1,7 +1,7 @@
 //! The line beside the output.
 ghost use Rattle.std.specs.Prelude.{◌≡◌, ◌⊎◌, Some, IfOk, string_bytes};
 ghost use Rattle.sto_console.specs.declared.refusal.Refusal.TheVariants.{NoMemory};
-ghost use Rattle.sto_console.specs.Said.{fault_line, count_text, schedules_line, states_text, states_line, Says};
+ghost use Rattle.sto_console.specs.Said.{fault_line, count_text, schedules_line, states_text, states_line, schedule_line, question_line, Says};
 ghost use Rattle.sto_console.specs.Statuses.{refusal_line, line_of, IsFixed, IsRefusedSo, EndsSo};
 
 use crate::refusal::{InputFault, Refusal, ScheduleCounts, StateCount};
@@ -9,7 +9,8 @@ use crate::stream::Sink;
 use crate::whole::write_all;
 use std::alloc::{AllocError, Global};
 use std::fmt;
-use sto_lang::ScriptFault;
+use sto_lang::{FaultKind, ScriptFault};
+use sto_question::QuestionFault;
 
 /// The line of a fault of a script.
 pub fn fault_line(alloc: Global, fault: ScriptFault) -> Result<String, AllocError>
@@ -69,6 +70,20 @@ pub fn states_line(alloc: Global, count: StateCount) -> Result<String, AllocErro
     format!(in alloc; "sto: line 0: too many states: {states}\n")
 }
 
+/// The line of a schedule that the script could not have.
+pub fn schedule_line(alloc: Global, kind: FaultKind) -> Result<String, AllocError>
+    ensures { IfOk result (λ text. string_bytes text ≡ schedule_line kind) }
+{
+    format!(in alloc; "sto: schedule: {kind}\n")
+}
+
+/// The line of words that are no question for the script.
+pub fn question_line(alloc: Global, fault: QuestionFault) -> Result<String, AllocError>
+    ensures { IfOk result (λ text. string_bytes text ≡ question_line fault) }
+{
+    format!(in alloc; "sto: question: {fault}\n")
+}
+
 // The line of a refusal whose line is always the same.
 fn fixed_line(refusal: Refusal) -> &'static [u8]
     requires { IsFixed refusal }
@@ -77,7 +92,11 @@ fn fixed_line(refusal: Refusal) -> &'static [u8]
     match refusal {
         Refusal::Usage => b"sto: usage\n",
         Refusal::Input(
-            InputFault::Script(_) | InputFault::ManySchedules(_) | InputFault::ManyStates(_),
+            InputFault::Script(_)
+            | InputFault::ManySchedules(_)
+            | InputFault::ManyStates(_)
+            | InputFault::Schedule(_)
+            | InputFault::Question(_),
         ) => unreachable!(),
         Refusal::Input(InputFault::NoReport) => b"sto: line 0: no report\n",
         Refusal::Input(InputFault::LongTrace) => b"sto: line 0: too many transactions\n",
@@ -124,6 +143,12 @@ pub fn say_refusal<E: Sink>(alloc: Global, diag: &mut E, refusal: Refusal) -> Re
         }
         Refusal::Input(InputFault::ManyStates(count)) => {
             say_made(diag, refusal, states_line(alloc, count))
+        }
+        Refusal::Input(InputFault::Schedule(kind)) => {
+            say_made(diag, refusal, schedule_line(alloc, kind))
+        }
+        Refusal::Input(InputFault::Question(fault)) => {
+            say_made(diag, refusal, question_line(alloc, fault))
         }
         _ => {
             write_line(diag, fixed_line(refusal));

@@ -15,7 +15,10 @@ mod whole;
 mod words;
 mod workers;
 
-pub use beside::{fault_line, say, say_refusal, schedules_line, states_line, write_line};
+pub use beside::{
+    fault_line, question_line, say, say_refusal, schedule_line, schedules_line, states_line,
+    write_line,
+};
 pub use memory::{MemSink, MemSource};
 pub use quiet::{QuietSink, QuietSource};
 pub use refusal::{InputFault, Refusal, ScheduleCounts, StateCount, status};

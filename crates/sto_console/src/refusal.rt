@@ -4,7 +4,8 @@ ghost use Rattle.sto_console.specs.declared.refusal.Refusal.TheVariants.{NoMemor
 ghost use Rattle.sto_console.specs.Statuses.{status_of, done_status, refusal_status};
 
 use std::alloc::AllocError;
-use sto_lang::ScriptFault;
+use sto_lang::{FaultKind, ScriptFault};
+use sto_question::QuestionFault;
 
 /// How many schedules a script has with at most no, one and two switches; `None` where they are more than 1,000,000.
 #[derive(Clone, Copy, PartialEq, Eq)]
@@ -22,7 +23,7 @@ pub enum StateCount {
     MoreThan(u64),
 }
 
-/// What is wrong with the bytes that were read.
+/// What is wrong with the bytes that were read, or with words that are read beside them.
 #[derive(Clone, Copy, PartialEq, Eq)]
 pub enum InputFault {
     /// They are too many, or no script stands where one must.
@@ -37,6 +38,10 @@ pub enum InputFault {
     ManySchedules(ScheduleCounts),
     /// What all orders lead to is asked, and they need too many nodes.
     ManyStates(StateCount),
+    /// The words have a schedule, and the script could not have it on a line, which would have this fault.
+    Schedule(FaultKind),
+    /// Outcomes are asked for by words that are no question for the script.
+    Question(QuestionFault),
 }
 
 /// Why a call of a program was refused.

@@ -2,7 +2,7 @@
 use Rattle.std.proofs.Common.{◌≡◌, ◌<◌, ℕ, List, length, refl, Option}
 use Rattle.sto_console.specs.Told.{Takes, AtEnd}
 use Rattle.sto_args.specs.declared.asked.Feeding.{Feeding}
-use Rattle.sto_console.specs.declared.refusal.InputFault.TheVariants.{Script, NoReport, LongTrace, LongRun, ManySchedules, ManyStates}
+use Rattle.sto_console.specs.declared.refusal.InputFault.TheVariants.{Script, NoReport, LongTrace, LongRun, ManySchedules, ManyStates, Schedule, Question}
 use Rattle.sto_console.specs.declared.refusal.Refusal.{Refusal}
 use Rattle.sto_console.specs.declared.refusal.Refusal.TheVariants.{Usage, Input, ReadFault, WriteFault, NoMemory}
 use Rattle.sto_console.specs.Ends.{IsFileRefusal, Unmade}
@@ -20,6 +20,8 @@ unmade asked left rest taken (Input LongTrace) t end e = absurd e
 unmade asked left rest taken (Input LongRun) t end e = absurd e
 unmade asked left rest taken (Input (ManySchedules counts)) t end e = absurd e
 unmade asked left rest taken (Input (ManyStates count)) t end e = absurd e
+unmade asked left rest taken (Input (Schedule kind)) t end e = absurd e
+unmade asked left rest taken (Input (Question fault)) t end e = absurd e
 unmade asked left rest taken NoMemory t end e = tt
 unmade asked left rest taken Usage t end e = absurd e
 unmade asked left rest taken ReadFault t end e = absurd e

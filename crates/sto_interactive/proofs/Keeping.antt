@@ -15,7 +15,7 @@ use Rattle.sto_interactive.specs.declared.asking.AskError.{AskError}
 use Rattle.sto_interactive.specs.declared.asking.AskError.TheVariants as ask_error
 use Rattle.sto_interactive.specs.declared.ending.CommitError.{CommitError}
 use Rattle.sto_interactive.specs.declared.ending.CommitError.TheVariants as commit_error
-use Rattle.sto_interactive.specs.Sessions.{Stands, IsSessionOf, IsFree, IsAsking}
+use Rattle.sto_interactive.specs.Sessions.{live_of, Stands, IsSessionOf, IsFree, IsAsking}
 use Rattle.sto_interactive.specs.Steps.{IsUnchanged, HasBegun, HasAsked, HasAskedAfter, HasEndedBy, HasCommittedAfter, HasCancelledAfter}
 
 module _ {T : Type 0} {n : naming.Ghosts T} (t : OfType T) (ty : T) (s : Shared T) where
@@ -28,8 +28,8 @@ module _ {T : Type 0} {n : naming.Ghosts T} (t : OfType T) (ty : T) (s : Shared 
   pub unchanged_stands : (x y : Session T n) → IsUnchanged x y → IsSessionOf t ty s x → IsSessionOf t ty s y
   unchanged_stands x y u h =
       subst (λ (o : Option RestingTransaction). Stands t ty s o y.rest.seat y.left) (sym u.2)
-      (subst (λ (r : Rest T n). Stands t ty s x.live r.seat y.left) (sym u.0)
-      (subst (λ (k : ℕ). Stands t ty s x.live x.rest.seat k) (sym u.1) h))
+      (subst (λ (r : Rest T n). Stands t ty s (live_of x) r.seat y.left) (sym u.0)
+      (subst (λ (k : ℕ). Stands t ty s (live_of x) x.rest.seat k) (sym u.1) h))
 
   pub begun_stands : (x y : Session T n) (r : Result (Unit {0}) BeginError) → IsSessionOf t ty s x → HasBegun t ty s x r y → IsSessionOf t ty s y
   begun_stands x y (Ok begun) h b = asking_stands [] [] y (x.rest.seat.me.0.view) b.1
@@ -57,23 +57,23 @@ module _ {T : Type 0} {n : naming.Ghosts T} (t : OfType T) (ty : T) (s : Shared 
   after_cancelled calls rs begun (Err commit_error.NoMemory) y h = free_stands y h.free
 
   -- by whether it was in a transaction
-  pub asked_by : (x y : Session T n) (call : Call) (r : Result (Unit {0}) AskError) (o : Option RestingTransaction) → x.live ≡ o → Stands t ty s o x.rest.seat x.left → IsSessionOf t ty s x → HasAsked t ty s x call r y → IsSessionOf t ty s y
+  pub asked_by : (x y : Session T n) (call : Call) (r : Result (Unit {0}) AskError) (o : Option RestingTransaction) → live_of x ≡ o → Stands t ty s o x.rest.seat x.left → IsSessionOf t ty s x → HasAsked t ty s x call r y → IsSessionOf t ty s y
   asked_by x y call r None e h stands a = unchanged_stands x y (a.free e).1 stands
   asked_by x y call r (Some p) e h stands a = after_asked h.0 h.1 h.2 call r y (a.asking h.0 h.1 h.2 (record { paused = p; live = e; waits = h.3 }))
 
   pub asked_stands : (x y : Session T n) (call : Call) (r : Result (Unit {0}) AskError) → IsSessionOf t ty s x → HasAsked t ty s x call r y → IsSessionOf t ty s y
-  asked_stands x y call r h a = asked_by x y call r x.live refl h h a
+  asked_stands x y call r h a = asked_by x y call r (live_of x) refl h h a
 
-  pub committed_by : (x y : Session T n) (r : Result ℕ CommitError) (o : Option RestingTransaction) → x.live ≡ o → Stands t ty s o x.rest.seat x.left → IsSessionOf t ty s x → HasEndedBy t ty s x r y (HasCommittedAfter t ty s) → IsSessionOf t ty s y
+  pub committed_by : (x y : Session T n) (r : Result ℕ CommitError) (o : Option RestingTransaction) → live_of x ≡ o → Stands t ty s o x.rest.seat x.left → IsSessionOf t ty s x → HasEndedBy t ty s x r y (HasCommittedAfter t ty s) → IsSessionOf t ty s y
   committed_by x y r None e h stands a = unchanged_stands x y (a.free e).1 stands
   committed_by x y r (Some p) e h stands a = after_committed h.0 h.1 h.2 r y (a.asking h.0 h.1 h.2 (record { paused = p; live = e; waits = h.3 }))
 
   pub committed_stands : (x y : Session T n) (r : Result ℕ CommitError) → IsSessionOf t ty s x → HasEndedBy t ty s x r y (HasCommittedAfter t ty s) → IsSessionOf t ty s y
-  committed_stands x y r h a = committed_by x y r x.live refl h h a
+  committed_stands x y r h a = committed_by x y r (live_of x) refl h h a
 
-  pub cancelled_by : (x y : Session T n) (r : Result ℕ CommitError) (o : Option RestingTransaction) → x.live ≡ o → Stands t ty s o x.rest.seat x.left → IsSessionOf t ty s x → HasEndedBy t ty s x r y (HasCancelledAfter t ty s) → IsSessionOf t ty s y
+  pub cancelled_by : (x y : Session T n) (r : Result ℕ CommitError) (o : Option RestingTransaction) → live_of x ≡ o → Stands t ty s o x.rest.seat x.left → IsSessionOf t ty s x → HasEndedBy t ty s x r y (HasCancelledAfter t ty s) → IsSessionOf t ty s y
   cancelled_by x y r None e h stands a = unchanged_stands x y (a.free e).1 stands
   cancelled_by x y r (Some p) e h stands a = after_cancelled h.0 h.1 h.2 r y (a.asking h.0 h.1 h.2 (record { paused = p; live = e; waits = h.3 }))
 
   pub cancelled_stands : (x y : Session T n) (r : Result ℕ CommitError) → IsSessionOf t ty s x → HasEndedBy t ty s x r y (HasCancelledAfter t ty s) → IsSessionOf t ty s y
-  cancelled_stands x y r h a = cancelled_by x y r x.live refl h h a
+  cancelled_stands x y r h a = cancelled_by x y r (live_of x) refl h h a

@@ -13,7 +13,7 @@ use Rattle.sto_table.specs.declared.shared.Shared.{Shared}
 use Rattle.sto_interactive.specs.declared.pause.RestingTransaction.{RestingTransaction}
 use Rattle.sto_interactive.specs.Pausing.{IsPaused}
 use Rattle.sto_interactive.specs.declared.session.Session.{Session}
-use Rattle.sto_interactive.specs.Sessions.{Stands}
+use Rattle.sto_interactive.specs.Sessions.{live_of, Stands}
 use Rattle.sto_interactive.specs.Steps.{HasAsked}
 
 some_heard : (rs : List PlainReply) (reply : PlainReply) (xs : List Reply) → map plain_reply xs ≡ rs ++ reply ∷ [] → 0 < length xs
@@ -24,8 +24,8 @@ module _ {T : Type 0} (t : OfType T) (ty : T) where
   heard_now calls rs p begun v h = (h (record { ref_ptr = (0, 0); now = ty }) refl).replies
 
 module _ {T : Type 0} {n : naming.Ghosts T} (t : OfType T) (ty : T) (s : Shared T) where
-  pub asked_last : (x y : Session T n) (call : Call) (o : Option RestingTransaction) → x.live ≡ o → Stands t ty s o x.rest.seat x.left → HasAsked t ty s x call (Ok tt) y
-      → (rs : Listed Reply) × (option_map (λ p. p.attempt.table.replies) y.live ≡ Some rs) × (0 < length rs.items)
+  pub asked_last : (x y : Session T n) (call : Call) (o : Option RestingTransaction) → live_of x ≡ o → Stands t ty s o x.rest.seat x.left → HasAsked t ty s x call (Ok tt) y
+      → (rs : Listed Reply) × (option_map (λ p. p.attempt.table.replies) (live_of y) ≡ Some rs) × (0 < length rs.items)
   asked_last x y call None e h a = cc ((a.free e).0)
   asked_last x y call (Some p) e h a =
       let b = a.asking h.0 h.1 h.2 (record { paused = p; live = e; waits = h.3 }) in

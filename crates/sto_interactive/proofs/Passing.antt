@@ -32,7 +32,7 @@ use Rattle.sto_interactive.specs.declared.pause.RestingTransaction.{RestingTrans
 use Rattle.sto_interactive.specs.Lives as lives
 use Rattle.sto_interactive.specs.Pausing.{IsPaused}
 use Rattle.sto_interactive.specs.declared.session.Session.{Session}
-use Rattle.sto_interactive.specs.Sessions.{Rests, Waits, IsFree, IsAsking, view_of}
+use Rattle.sto_interactive.specs.Sessions.{live_of, Rests, Waits, IsFree, IsAsking, view_of}
 use Rattle.sto_interactive.specs.Steps.{place_of, HasCommittedAfter, HasCancelledAfter, HasFailed, IsAnswered, WasAborted, passes_of}
 
 abbrev pub Pass : Type 0
@@ -44,6 +44,9 @@ There (Some x) = Unit {0}
 
 pub never_both : {X : Type 0} (o : Option X) (x : X) → o ≡ None → o ≡ Some x → ⊥
 never_both o x none some = subst (λ (p : Option _). There p) (sym some ∙ none) tt
+
+pub same_one : {X : Type 0} (o : Option X) (x y : X) → o ≡ Some x → o ≡ Some y → x ≡ y
+same_one o x y e f = cc
 
 -- what a call tells that was not answered, by why it was not
 pub stopped : {T : Type 0} (t : OfType T) (k : ℕ) (ty : T) (calls : List Call) (rs : List PlainReply) (call : Call) (old new : Live T) (begun v w : View) (e x : StepError) → e ≡ x
@@ -100,7 +103,7 @@ module _ {T : Type 0} (t : OfType T) (ty : T) where
 
 module _ {T : Type 0} {n : naming.Ghosts T} (t : OfType T) (ty : T) (s : Shared T) where
   -- where a pass waits within a transaction, so does a session on it
-  pub asking_on : (calls : List Call) (rs : List PlainReply) (begun : View) (y : Session T n) (p : RestingTransaction) (l : Live T) (d : Pass) (left : ℕ) → y.live ≡ Some p → y.rest.seat ≡ d → y.left ≡ left → IsOf s d → left < begun.draws
+  pub asking_on : (calls : List Call) (rs : List PlainReply) (begun : View) (y : Session T n) (p : RestingTransaction) (l : Live T) (d : Pass) (left : ℕ) → live_of y ≡ Some p → y.rest.seat ≡ d → y.left ≡ left → IsOf s d → left < begun.draws
       → lives.IsLive t ty calls rs l begun d.me.0.view → IsPaused t ty calls rs p begun d.me.0.view → IsAsking t ty s calls rs y begun
   asking_on calls rs begun y p l d left live same so_many of less lives_on paused = record {
     paused = p;
@@ -110,7 +113,7 @@ module _ {T : Type 0} {n : naming.Ghosts T} (t : OfType T) (ty : T) (s : Shared 
   }
 
   -- a call was answered
-  pub answered : (calls : List Call) (rs : List PlainReply) (call : Call) (begun : View) (y : Session T n) (p : RestingTransaction) (l : Live T) (d : Pass) (left : ℕ) → y.live ≡ Some p → y.rest.seat ≡ d → y.left ≡ left → IsOf s d
+  pub answered : (calls : List Call) (rs : List PlainReply) (call : Call) (begun : View) (y : Session T n) (p : RestingTransaction) (l : Live T) (d : Pass) (left : ℕ) → live_of y ≡ Some p → y.rest.seat ≡ d → y.left ≡ left → IsOf s d
       → left < begun.draws → ((x : T) (cs : List Call) (ss : List PlainReply) (u v : View) → lives.IsLive t x cs ss l u v → IsPaused t x cs ss p u v)
       → lives.IsAnswered t ty calls rs call l begun d.me.0.view → IsAnswered t ty s calls rs call y begun
   answered calls rs call begun y p l d left live same so_many of less pauses h = record {
@@ -121,7 +124,7 @@ module _ {T : Type 0} {n : naming.Ghosts T} (t : OfType T) (ty : T) (s : Shared 
   }
 
   -- a call was not taken: all is as before
-  pub untaken : (calls : List Call) (rs : List PlainReply) (begun : View) (y : Session T n) (p : RestingTransaction) (old new : Live T) (b d : Pass) (left : ℕ) → y.live ≡ Some p → y.rest.seat ≡ d → y.left ≡ left → IsOf s d
+  pub untaken : (calls : List Call) (rs : List PlainReply) (begun : View) (y : Session T n) (p : RestingTransaction) (old new : Live T) (b d : Pass) (left : ℕ) → live_of y ≡ Some p → y.rest.seat ≡ d → y.left ≡ left → IsOf s d
       → left < begun.draws → ((x : T) (cs : List Call) (ss : List PlainReply) (u v : View) → lives.IsLive t x cs ss new u v → IsPaused t x cs ss p u v)
       → lives.IsLive t ty calls rs old begun b.me.0.view → new ≡ old → d.me.0.view ≡ b.me.0.view → IsAsking t ty s calls rs y begun
   untaken calls rs begun y p old new b d left live same so_many of less pauses on kept still =
@@ -129,10 +132,10 @@ module _ {T : Type 0} {n : naming.Ghosts T} (t : OfType T) (ty : T) (s : Shared 
       asking_on calls rs begun y p new d left live same so_many of less now (pauses ty calls rs begun d.me.0.view now)
 
   -- it is free, on a pass that is at rest
-  pub free_on : (y : Session T n) (d : Pass) → y.live ≡ None → y.rest.seat ≡ d → IsOf s d → IsAtRest (t.meaning ty) (t.sizes ty) d.me.0.view → IsFree t ty s y
+  pub free_on : (y : Session T n) (d : Pass) → live_of y ≡ None → y.rest.seat ≡ d → IsOf s d → IsAtRest (t.meaning ty) (t.sizes ty) d.me.0.view → IsFree t ty s y
   free_on y d none same of rests = record { none = none; rests = subst (λ (e : Pass). Rests t ty s e) (sym same) (record { of = of; at_rest = rests }) }
 
-  pub fails : (begun : View) (y : Session T n) (d : Pass) → y.live ≡ None → y.rest.seat ≡ d → IsOf s d → HasStopped (t.meaning ty) (t.sizes ty) begun d.me.0.view → HasFailed t ty s begun y
+  pub fails : (begun : View) (y : Session T n) (d : Pass) → live_of y ≡ None → y.rest.seat ≡ d → IsOf s d → HasStopped (t.meaning ty) (t.sizes ty) begun d.me.0.view → HasFailed t ty s begun y
   fails begun y d none same of h =
       record { free = free_on y d none same of h.rests; stopped = subst (λ (e : Pass). HasStopped (t.meaning ty) (t.sizes ty) begun e.me.0.view) (sym same) h }
 
@@ -149,19 +152,19 @@ module _ {T : Type 0} {n : naming.Ghosts T} (t : OfType T) (ty : T) (s : Shared 
       → lives.HasCancelled t (passes_of s) ty calls rs e begun (view_of y) → HasCancelledAfter t ty s calls rs begun (place_of e.verdict) y
   given_up calls rs begun y e free h = subst (λ (x : Verdict). HasCancelledAfter t ty s calls rs begun (place_of x) y) (sym h.verdict) (record { free = free; ended = e; told = h; stands = h.verdict })
 
-  pub commits : (calls : List Call) (rs : List PlainReply) (begun : View) (y : Session T n) (d : Pass) (e : FinishedAttempt AskedCalls) (k : ℕ) → k ≡ passes_of s → y.live ≡ None → y.rest.seat ≡ d → IsOf s d
+  pub commits : (calls : List Call) (rs : List PlainReply) (begun : View) (y : Session T n) (d : Pass) (e : FinishedAttempt AskedCalls) (k : ℕ) → k ≡ passes_of s → live_of y ≡ None → y.rest.seat ≡ d → IsOf s d
       → lives.HasCommitted t k ty calls rs e begun d.me.0.view → HasCommittedAfter t ty s calls rs begun (place_of e.verdict) y
   commits calls rs begun y d e k many none same of h =
       committed calls rs begun y e.body e.replies e.verdict (free_on y d none same of h.ended.rests)
       (subst (λ (i : ℕ). lives.HasCommitted t i ty calls rs e begun (view_of y)) many (subst (λ (x : Pass). lives.HasCommitted t k ty calls rs e begun x.me.0.view) (sym same) h))
 
-  pub cancels : (calls : List Call) (rs : List PlainReply) (begun : View) (y : Session T n) (d : Pass) (e : FinishedAttempt AskedCalls) → y.live ≡ None → y.rest.seat ≡ d → IsOf s d
+  pub cancels : (calls : List Call) (rs : List PlainReply) (begun : View) (y : Session T n) (d : Pass) (e : FinishedAttempt AskedCalls) → live_of y ≡ None → y.rest.seat ≡ d → IsOf s d
       → lives.HasCancelled t (passes_of s) ty calls rs e begun d.me.0.view → HasCancelledAfter t ty s calls rs begun (place_of e.verdict) y
   cancels calls rs begun y d e none same of h =
       given_up calls rs begun y e (free_on y d none same of h.ended.rests) (subst (λ (x : Pass). lives.HasCancelled t (passes_of s) ty calls rs e begun x.me.0.view) (sym same) h)
 
   -- a call met an abort
-  pub aborted : (calls : List Call) (begun : View) (y : Session T n) (d : Pass) (e : FinishedAttempt AskedCalls) (k : ℕ) → k ≡ passes_of s → y.live ≡ None → y.rest.seat ≡ d → IsOf s d → is_abort (verdict e.verdict) ≡ true
+  pub aborted : (calls : List Call) (begun : View) (y : Session T n) (d : Pass) (e : FinishedAttempt AskedCalls) (k : ℕ) → k ≡ passes_of s → live_of y ≡ None → y.rest.seat ≡ d → IsOf s d → is_abort (verdict e.verdict) ≡ true
       → HasEnded t.meaning t.valid t.sizes script_in next_of left_of MayAskOf k ty (script_of calls E.Commit) e begun d.me.0.view → WasAborted t ty s calls y begun
   aborted calls begun y d e k many none same of abort h = record {
     free = free_on y d none same of h.rests;

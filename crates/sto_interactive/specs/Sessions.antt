@@ -14,6 +14,10 @@ use Rattle.sto_interactive.specs.declared.pause.RestingTransaction.{RestingTrans
 use Rattle.sto_interactive.specs.Pausing.{IsPaused}
 use Rattle.sto_interactive.specs.declared.session.Session.{Session}
 
+-- the transaction that it is in, if it is in one
+abbrev pub live_of : {T : Type 0} {n : naming.Ghosts T} → Session T n → Option RestingTransaction
+live_of x = x.room.value.live
+
 -- what its pass knows
 abbrev pub view_of : {T : Type 0} {n : naming.Ghosts T} → Session T n → View
 view_of x = x.rest.seat.me.0.view
@@ -39,15 +43,15 @@ module _ {T : Type 0} (t : OfType T) (ty : T) (s : Shared T) where
 
 module _ {T : Type 0} {n : naming.Ghosts T} (t : OfType T) (ty : T) (s : Shared T) where
   abbrev pub IsSessionOf : Session T n → Type 0
-  IsSessionOf x = Stands t ty s x.live x.rest.seat x.left
+  IsSessionOf x = Stands t ty s (live_of x) x.rest.seat x.left
 
   -- it is in no transaction
   pub record IsFree (x : Session T n) : Type 0 where
-    pub none : x.live ≡ None
+    pub none : live_of x ≡ None
     pub rests : Rests t ty s x.rest.seat
 
   -- it is in a transaction, of which these calls were asked, and answered so
   pub record IsAsking (calls : List Call) (rs : List PlainReply) (x : Session T n) (begun : View) : Type 0 where
     pub paused : RestingTransaction
-    pub live : x.live ≡ Some paused
+    pub live : live_of x ≡ Some paused
     pub waits : Waits t ty s calls rs paused begun x.rest.seat x.left

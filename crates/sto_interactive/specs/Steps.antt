@@ -25,7 +25,7 @@ use Rattle.sto_interactive.specs.declared.asking.AskError.{AskError}
 use Rattle.sto_interactive.specs.declared.asking.AskError.TheVariants as ask_error
 use Rattle.sto_interactive.specs.declared.ending.CommitError.{CommitError}
 use Rattle.sto_interactive.specs.declared.ending.CommitError.TheVariants as commit_error
-use Rattle.sto_interactive.specs.Sessions.{view_of, IsFree, IsAsking}
+use Rattle.sto_interactive.specs.Sessions.{live_of, view_of, IsFree, IsAsking}
 
 -- the place in the order of a transaction that ended so: its ticket, or the number as of which it read
 abbrev pub place_of : Verdict → Result ℕ CommitError
@@ -37,7 +37,7 @@ place_of (Changed at part ticket) = Err commit_error.Aborted
 
 -- the pass, the tickets left and the transaction are as before
 abbrev pub IsUnchanged : {T : Type 0} {n : naming.Ghosts T} → Session T n → Session T n → Type 0
-IsUnchanged x y = (y.rest ≡ x.rest) × (y.left ≡ x.left) × (y.live ≡ x.live)
+IsUnchanged x y = (y.rest ≡ x.rest) × (y.left ≡ x.left) × (live_of y ≡ live_of x)
 
 abbrev pub passes_of : {T : Type 0} → Shared T → ℕ
 passes_of s = s.table.shared.key.passes
@@ -58,10 +58,10 @@ module _ {T : Type 0} {n : naming.Ghosts T} (t : OfType T) (ty : T) (s : Shared 
 
   -- one ticket less is left where it was begun, and where memory was wanting
   abbrev pub HasBegun : Session T n → Result (Unit {0}) BeginError → Session T n → Type 0
-  HasBegun x (Ok started) y = (x.live ≡ None) × IsAsking t ty s [] [] y (view_of x) × (y.left + 1 ≡ x.left)
-  HasBegun x (Err begin_error.InTransaction) y = (x.live ≢ None) × IsUnchanged x y
-  HasBegun x (Err begin_error.Worn) y = (x.live ≡ None) × (x.left ≡ 0) × IsUnchanged x y
-  HasBegun x (Err begin_error.NoMemory) y = (x.live ≡ None) × HasFailed (view_of x) y × (y.left + 1 ≡ x.left)
+  HasBegun x (Ok started) y = (live_of x ≡ None) × IsAsking t ty s [] [] y (view_of x) × (y.left + 1 ≡ x.left)
+  HasBegun x (Err begin_error.InTransaction) y = (live_of x ≢ None) × IsUnchanged x y
+  HasBegun x (Err begin_error.Worn) y = (live_of x ≡ None) × (x.left ≡ 0) × IsUnchanged x y
+  HasBegun x (Err begin_error.NoMemory) y = (live_of x ≡ None) × HasFailed (view_of x) y × (y.left + 1 ≡ x.left)
 
   -- a call was answered: it and its reply come last. On all valid contents that have the claims of the pass as of a number of the clock,
   -- the calls, run one after the other, answer exactly these replies
@@ -87,7 +87,7 @@ module _ {T : Type 0} {n : naming.Ghosts T} (t : OfType T) (ty : T) (s : Shared 
   HasAskedAfter calls rs begun call (Err ask_error.NoMemory) y = HasFailed begun y
 
   pub record HasAsked (x : Session T n) (call : Call) (result : Result (Unit {0}) AskError) (y : Session T n) : Type 0 where
-    pub free : x.live ≡ None → (result ≡ Err ask_error.NoTransaction) × IsUnchanged x y
+    pub free : live_of x ≡ None → (result ≡ Err ask_error.NoTransaction) × IsUnchanged x y
     pub asking : (calls : List Call) (rs : List PlainReply) (begun : View) → IsAsking t ty s calls rs x begun → HasAskedAfter calls rs begun call result y
     pub left : y.left ≡ x.left
 
@@ -118,6 +118,6 @@ module _ {T : Type 0} {n : naming.Ghosts T} (t : OfType T) (ty : T) (s : Shared 
   HasCancelledAfter calls rs begun (Err commit_error.NoMemory) y = HasFailed begun y
 
   pub record HasEndedBy (x : Session T n) (result : Result ℕ CommitError) (y : Session T n) (ends : List Call → List PlainReply → View → Result ℕ CommitError → Session T n → Type 0) : Type 0 where
-    pub free : x.live ≡ None → (result ≡ Err commit_error.NoTransaction) × IsUnchanged x y
+    pub free : live_of x ≡ None → (result ≡ Err commit_error.NoTransaction) × IsUnchanged x y
     pub asking : (calls : List Call) (rs : List PlainReply) (begun : View) → IsAsking t ty s calls rs x begun → ends calls rs begun result y
     pub left : y.left ≡ x.left

@@ -3,13 +3,12 @@ ghost use Rattle.std.specs.Prelude.{◌≡◌, ◌≤◌, ◌<◌, Some, None, L
 ghost use Rattle.sto_model.specs.declared.call.Call.{Call};
 ghost use Rattle.sto_model.specs.PlainReplies.{PlainReply};
 ghost use Rattle.sto_core.specs.declared.view.View.{View};
-ghost use Rattle.sto_interactive.specs.Sessions.{IsSessionOf, Waits};
+ghost use Rattle.sto_interactive.specs.Sessions.{live_of, IsSessionOf, Waits};
 ghost use Rattle.sto_interactive.specs.Steps.{HasAsked, HasAskedAfter};
 
 use crate::live::StepError;
-use crate::memory::StepLists;
 use crate::pause::RestingTransaction;
-use crate::session::Session;
+use crate::session::{Session, SessionRoom};
 use std::alloc::Global;
 use sto_model::{Call, Replies};
 use sto_table::{Rest, Shared};
@@ -43,23 +42,19 @@ impl<T: TxType> Session<T> {
         let Session {
             rest,
             left,
-            live,
-            memory,
+            mut room,
         } = self;
-        match live {
-            Some(live) => ask(alloc, ty, shared, rest, left, live, memory, call),
-            None => (
-                Session::new(rest, left, memory),
-                Err(AskError::NoTransaction),
-            ),
+        match room.take() {
+            Some(live) => ask(alloc, ty, shared, rest, left, live, room, call),
+            None => (Session::new(rest, left, room), Err(AskError::NoTransaction)),
         }
     }
 
     /// What the calls of the transaction were answered, in order; none where it is in no transaction.
     pub fn replies(&self) -> Option<&Replies>
-        ensures { option_map (λ r. r.now) result ≡ option_map (λ p. p.attempt.table.replies) self.now.live }
+        ensures { option_map (λ r. r.now) result ≡ option_map (λ p. p.attempt.table.replies) (live_of self.now) }
     {
-        match &self.live {
+        match &self.room.live {
             Some(live) => Some(live.replies()),
             None => None,
         }
@@ -74,12 +69,13 @@ fn ask<T: TxType>(
     rest: Rest<T>,
     left: u64,
     live: RestingTransaction,
-    memory: StepLists,
+    room: Box<SessionRoom>,
     call: Call,
 ) -> (Session<T>, Result<(), AskError>)
     requires waits { (calls : List Call) × (rs : List PlainReply) × (begun : View)
         × Waits T.TxType ty.now shared.now calls rs live begun rest.seat left }
     requires one { rest.seat.me.0.view.gathered ≡ 1 }
+    requires free { room.value.live ≡ None }
     ensures left { result.0.left ≡ left }
     ensures asked { (calls : List Call) (rs : List PlainReply) (begun : View)
         → Waits T.TxType ty.now shared.now calls rs live begun rest.seat left
@@ -87,47 +83,44 @@ fn ask<T: TxType>(
 {
     let mut pass = shared.pass(rest);
     let mut live = live.go_on(ty);
-    let mut memory = memory;
+    let mut room = room;
     match live.ask(alloc, &mut pass, call) {
-        Ok(()) => (waiting(pass.rest(), left, live.pause(), memory), Ok(())),
+        Ok(()) => (waiting(pass.rest(), left, live.pause(), room), Ok(())),
         Err(StepError::Untaken) => (
-            waiting(pass.rest(), left, live.pause(), memory),
+            waiting(pass.rest(), left, live.pause(), room),
             Err(AskError::Untaken),
         ),
         Err(StepError::Aborted(_)) => {
-            live.give_back(&mut memory);
+            room.give_back(live);
             (
-                Session::new(pass.rest(), left, memory),
+                Session::new(pass.rest(), left, room),
                 Err(AskError::Aborted),
             )
         }
         Err(StepError::NoMemory) => {
-            live.give_back(&mut memory);
+            room.give_back(live);
             (
-                Session::new(pass.rest(), left, memory),
+                Session::new(pass.rest(), left, room),
                 Err(AskError::NoMemory),
             )
         }
     }
 }
 
-// A session in a transaction.
-fn waiting<T: TxType>(
+/// A session in a transaction.
+pub(crate) fn waiting<T: TxType>(
     rest: Rest<T>,
     left: u64,
     live: RestingTransaction,
-    memory: StepLists,
+    room: Box<SessionRoom>,
 ) -> Session<T>
     requires enough { left ≤ rest.seat.me.0.view.draws }
     requires one { rest.seat.me.0.view.gathered ≡ 1 }
     ensures rest { result.rest ≡ rest }
     ensures left { result.left ≡ left }
-    ensures live { result.live ≡ Some live }
+    ensures live { live_of result ≡ Some live }
 {
-    Session {
-        rest,
-        left,
-        live: Some(live),
-        memory,
-    }
+    let mut room = room;
+    room.put(live);
+    Session { rest, left, room }
 }

@@ -1,14 +1,13 @@
 //! A transaction is ended.
-ghost use Rattle.std.specs.Prelude.{◌≡◌, List};
+ghost use Rattle.std.specs.Prelude.{◌≡◌, None, List};
 ghost use Rattle.sto_model.specs.declared.call.Call.{Call};
 ghost use Rattle.sto_model.specs.PlainReplies.{PlainReply};
 ghost use Rattle.sto_core.specs.declared.view.View.{View};
 ghost use Rattle.sto_interactive.specs.Sessions.{IsSessionOf, Waits};
 ghost use Rattle.sto_interactive.specs.Steps.{place_of, HasEndedBy, HasCommittedAfter, HasCancelledAfter};
 
-use crate::memory::StepLists;
 use crate::pause::RestingTransaction;
-use crate::session::Session;
+use crate::session::{Session, SessionRoom};
 use std::alloc::Global;
 use sto_attempt::Verdict;
 use sto_part::NoMemory;
@@ -42,13 +41,12 @@ impl<T: TxType> Session<T> {
         let Session {
             rest,
             left,
-            live,
-            memory,
+            mut room,
         } = self;
-        match live {
-            Some(live) => commit(alloc, ty, shared, rest, left, live, memory),
+        match room.take() {
+            Some(live) => commit(alloc, ty, shared, rest, left, live, room),
             None => (
-                Session::new(rest, left, memory),
+                Session::new(rest, left, room),
                 Err(CommitError::NoTransaction),
             ),
         }
@@ -68,13 +66,12 @@ impl<T: TxType> Session<T> {
         let Session {
             rest,
             left,
-            live,
-            memory,
+            mut room,
         } = self;
-        match live {
-            Some(live) => cancel(alloc, ty, shared, rest, left, live, memory),
+        match room.take() {
+            Some(live) => cancel(alloc, ty, shared, rest, left, live, room),
             None => (
-                Session::new(rest, left, memory),
+                Session::new(rest, left, room),
                 Err(CommitError::NoTransaction),
             ),
         }
@@ -89,11 +86,12 @@ fn commit<T: TxType>(
     rest: Rest<T>,
     left: u64,
     live: RestingTransaction,
-    memory: StepLists,
+    room: Box<SessionRoom>,
 ) -> (Session<T>, Result<u64, CommitError>)
     requires waits { (calls : List Call) × (rs : List PlainReply) × (begun : View)
         × Waits T.TxType ty.now shared.now calls rs live begun rest.seat left }
     requires one { rest.seat.me.0.view.gathered ≡ 1 }
+    requires free { room.value.live ≡ None }
     ensures left { result.0.left ≡ left }
     ensures committed { (calls : List Call) (rs : List PlainReply) (begun : View)
         → Waits T.TxType ty.now shared.now calls rs live begun rest.seat left
@@ -101,15 +99,16 @@ fn commit<T: TxType>(
 {
     let mut pass = shared.pass(rest);
     let live = live.go_on(ty);
-    let mut memory = memory;
-    match live.commit(alloc, &mut pass, &mut memory) {
+    let mut room = room;
+    let held = &mut *room;
+    match live.commit(alloc, &mut pass, &mut held.memory) {
         Ok(ended) => {
             let place = place_of(ended.verdict);
-            memory.keep(ended);
-            (Session::new(pass.rest(), left, memory), place)
+            held.memory.keep(ended);
+            (Session::new(pass.rest(), left, room), place)
         }
         Err(NoMemory) => (
-            Session::new(pass.rest(), left, memory),
+            Session::new(pass.rest(), left, room),
             Err(CommitError::NoMemory),
         ),
     }
@@ -123,25 +122,27 @@ fn cancel<T: TxType>(
     rest: Rest<T>,
     left: u64,
     live: RestingTransaction,
-    memory: StepLists,
+    room: Box<SessionRoom>,
 ) -> (Session<T>, Result<u64, CommitError>)
     requires waits { (calls : List Call) × (rs : List PlainReply) × (begun : View)
         × Waits T.TxType ty.now shared.now calls rs live begun rest.seat left }
     requires one { rest.seat.me.0.view.gathered ≡ 1 }
+    requires free { room.value.live ≡ None }
     ensures left { result.0.left ≡ left }
     ensures cancelled { (calls : List Call) (rs : List PlainReply) (begun : View)
         → Waits T.TxType ty.now shared.now calls rs live begun rest.seat left
         → HasCancelledAfter T.TxType ty.now shared.now calls rs begun result.1 result.0 }
 {
     let live = live.go_on(ty);
-    let mut memory = memory;
-    match live.cancel(alloc, &mut memory) {
+    let mut room = room;
+    let held = &mut *room;
+    match live.cancel(alloc, &mut held.memory) {
         Ok(ended) => {
             let place = place_of(ended.verdict);
-            memory.keep(ended);
-            (Session::new(rest, left, memory), place)
+            held.memory.keep(ended);
+            (Session::new(rest, left, room), place)
         }
-        Err(NoMemory) => (Session::new(rest, left, memory), Err(CommitError::NoMemory)),
+        Err(NoMemory) => (Session::new(rest, left, room), Err(CommitError::NoMemory)),
     }
 }
 

@@ -18,5 +18,5 @@ pub use ending::CommitError;
 pub use live::{Live, StepError};
 pub use memory::StepLists;
 pub use pause::RestingTransaction;
-pub use session::Session;
+pub use session::{Session, SessionRoom};
 pub use starting::BeginError;

@@ -1,13 +1,13 @@
 //! A transaction is begun.
-ghost use Rattle.std.specs.Prelude.{◌≡◌, ◌<◌};
+ghost use Rattle.std.specs.Prelude.{◌≡◌, ◌<◌, None};
 ghost use Rattle.sto_table.specs.Rests.{IsOf};
 ghost use Rattle.sto_transaction.specs.Resting.{IsAtRest};
 ghost use Rattle.sto_interactive.specs.Sessions.{IsSessionOf};
 ghost use Rattle.sto_interactive.specs.Steps.{HasBegun, HasStarted};
 
+use crate::asking::waiting;
 use crate::live::Live;
-use crate::memory::StepLists;
-use crate::session::Session;
+use crate::session::{Session, SessionRoom};
 use std::alloc::Global;
 use sto_part::NoMemory;
 use sto_table::{Rest, Shared};
@@ -35,19 +35,14 @@ impl<T: TxType> Session<T> {
         requires { IsSessionOf T.TxType ty.now shared.now self }
         ensures { HasBegun T.TxType ty.now shared.now self result.1 result.0 }
     {
-        if self.live.is_some() {
+        if self.room.live.is_some() {
             return (self, Err(BeginError::InTransaction));
         }
         if self.left == 0 {
             return (self, Err(BeginError::Worn));
         }
-        let Session {
-            rest,
-            left,
-            memory,
-            ..
-        } = self;
-        start(alloc, ty, shared, rest, left - 1, memory)
+        let Session { rest, left, room } = self;
+        start(alloc, ty, shared, rest, left - 1, room)
     }
 }
 
@@ -58,28 +53,22 @@ fn start<T: TxType>(
     shared: &Shared<T>,
     rest: Rest<T>,
     left: u64,
-    memory: StepLists,
+    room: Box<SessionRoom>,
 ) -> (Session<T>, Result<(), BeginError>)
     requires of { IsOf shared.now rest.seat }
     requires rests { IsAtRest (T.meaning ty.now) (T.sizes ty.now) rest.seat.me.0.view }
     requires left { left < rest.seat.me.0.view.draws }
     requires one { rest.seat.me.0.view.gathered ≡ 1 }
+    requires free { room.value.live ≡ None }
     ensures { HasStarted T.TxType ty.now shared.now rest.seat.me.0.view left result.1 result.0 }
 {
     let mut pass = shared.pass(rest);
-    let mut memory = memory;
-    match Live::begin(alloc, ty, &mut pass, &mut memory) {
-        Ok(live) => {
-            let session = Session {
-                rest: pass.rest(),
-                left,
-                live: Some(live.pause()),
-                memory,
-            };
-            (session, Ok(()))
-        }
+    let mut room = room;
+    let held = &mut *room;
+    match Live::begin(alloc, ty, &mut pass, &mut held.memory) {
+        Ok(live) => (waiting(pass.rest(), left, live.pause(), room), Ok(())),
         Err(NoMemory) => (
-            Session::new(pass.rest(), left, memory),
+            Session::new(pass.rest(), left, room),
             Err(BeginError::NoMemory),
         ),
     }

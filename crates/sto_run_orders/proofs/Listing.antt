@@ -18,7 +18,7 @@ use Rattle.sto_orders.specs.declared.outcome.Outcome.{Outcome}
 use Rattle.sto_orders.specs.Outcomes.{OrderEnd, end_of, order_of, HasOutcome, AreOutcomes}
 use Rattle.sto_run_orders.specs.declared.report.OrderReport.{OrderReport}
 use Rattle.sto_run_orders.proofs.Apart.{AreDifferent, different_in_order}
-use Rattle.sto_run_orders.specs.Reports.{told_end, IsReportBy, IsOutcomeReport, AreOrderReports, TellApart, IsAmong}
+use Rattle.sto_run_orders.specs.Reports.{told_end, HasTold, IsReportBy, IsOutcomeReport, AreOrderReports, TellApart, IsAmong}
 
 -- a lawful report names an order of the file
 lawful_order : (form : ReportForm) (u : Updating) (file : File) (tries : ℕ) (text : List ℕ) → IsLawfulIn form u file tries text → IsOrder file (order_told form file.names text)
@@ -58,6 +58,16 @@ module _ (by : SameBy) (form : ReportForm) (file : File) (tries : ℕ) where
 
   pub all_by : (reports : List OrderReport) → AreOrderReports by form file tries reports → All (λ (r : OrderReport). IsReportBy form file tries r.report.items r.schedule) reports
   all_by reports are = All-permutation (λ (r : OrderReport). IsReportBy form file tries r.report.items r.schedule) are.told reports are.same (told_by are.found are.told are.each)
+
+  -- the state beside each is the one that it tells
+  states_by : (found : List Outcome) (told : List OrderReport) → AllZip (IsOutcomeReport by form file tries) found told → All (HasTold form file) told
+  states_by [] [] each = All-nil (HasTold form file)
+  states_by [] (r ∷ told) each = absurd each
+  states_by (o ∷ found) [] each = absurd each
+  states_by (o ∷ found) (r ∷ told) each = All-cons (HasTold form file) r told each.0.state (states_by found told each.1)
+
+  pub all_states : (reports : List OrderReport) → AreOrderReports by form file tries reports → All (HasTold form file) reports
+  all_states reports are = All-permutation (HasTold form file) are.told reports are.same (states_by are.found are.told are.each)
 
   -- a report tells the outcome in its place
   told_in_place : (found : List Outcome) (told : List OrderReport) → AllZip (IsOutcomeReport by form file tries) found told → (k : ℕ) (d : OrderEnd) → k < length (map end_in told)

@@ -30,7 +30,8 @@ use Rattle.sto_run.proofs.RunJournals.{lawful_run}
 use Rattle.sto_orders.specs.declared.same_by.SameBy.{SameBy}
 use Rattle.sto_orders.specs.declared.outcome.Outcome.{Outcome}
 use Rattle.sto_orders.specs.Outcomes.{end_of, order_of}
-use Rattle.sto_run_orders.specs.Reports.{told_end}
+use Rattle.sto_report_spec.specs.Replay.{final_state}
+use Rattle.sto_run_orders.specs.Reports.{told_end, state_told}
 
 -- a journal that is lawful by what the objects mean is so by what their shapes mean
 pub lawful_by_shapes : (objects : Objects) (file : File) (tries : ℕ) (journal : Journal) → AreOf objects (shapes_of file.declarations)
@@ -76,6 +77,11 @@ step_report form objects file tries schedule journal text kinds run alone r = re
 pub told_same : (by : SameBy) (form : ReportForm) (file : File) (tries : ℕ) (journal : Journal) (text : List ℕ) (o : Outcome) → IsReportOf form file tries journal text
     → end_of by file (places journal.lines.items) ≡ end_of by file (order_of o) → told_end by form file text ≡ end_of by file (order_of o)
 told_same by form file tries journal text o r same = ap (end_of by file) r.order ∙ same
+
+-- and so is its final state
+pub state_is : (form : ReportForm) (file : File) (tries : ℕ) (journal : Journal) (text : List ℕ) → IsReportOf form file tries journal text
+    → journal.state.items ≡ final_state file (places journal.lines.items) → journal.state.items ≡ state_told form file text
+state_is form file tries journal text r final = final ∙ ap (final_state file) (sym r.order)
 
 -- one more of each of two lists
 pub zipped_more : {A B : Type 0} (R : A → B → Type 0) (xs : List A) (ys : List B) (x : A) (y : B) → AllZip R xs ys → R x y → AllZip R (xs ++ x ∷ []) (ys ++ y ∷ [])

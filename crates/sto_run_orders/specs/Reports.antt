@@ -8,7 +8,9 @@ use Rattle.std.specs.declared.alloc.Global.{Global}
 use Rattle.sto_lang.specs.declared.file.Turns.{Turns}
 use Rattle.sto_lang.specs.Scripts.{File}
 use Rattle.sto_report_spec.specs.declared.form.ReportForm.{ReportForm}
+use Rattle.sto_model.specs.Run.{State}
 use Rattle.sto_report_spec.specs.Lawful.{IsLawfulIn}
+use Rattle.sto_report_spec.specs.Replay.{final_state}
 use Rattle.sto_run.specs.Meanings.{updating_by}
 use Rattle.sto_run.specs.Stores.{means}
 use Rattle.sto_run.specs.Forms.{order_told, aborts_told}
@@ -27,10 +29,18 @@ abbrev pub IsReportBy : ReportForm → File → ℕ → List ℕ → Option (Vec
 IsReportBy form file tries text (Some schedule) = IsStepReport form file tries schedule.items text
 IsReportBy form file tries text None = IsLawfulIn form (updating_by means) file tries text × (aborts_told form file.names text ≡ [])
 
+-- the final state that stands beside the report is the one that it tells: that of the order that it names
+abbrev pub state_told : ReportForm → File → List ℕ → State
+state_told form file text = final_state file (order_told form file.names text)
+
+abbrev pub HasTold : ReportForm → File → OrderReport → Type 0
+HasTold form file r = r.state.items ≡ state_told form file r.report.items
+
 -- the report tells an outcome of orders
 pub record IsOutcomeReport (by : SameBy) (form : ReportForm) (file : File) (tries : ℕ) (o : Outcome) (r : OrderReport) : Type 0 where
   pub report : IsReportBy form file tries r.report.items r.schedule
   pub same : told_end by form file r.report.items ≡ end_of by file (order_of o)
+  pub state : HasTold form file r
   pub orders : r.orders ≡ o.orders
 
 -- the entries of a schedule; none where there is none

@@ -4,6 +4,8 @@ use Rattle.std.specs.List.{enumerate_from, join_with_byte}
 use Rattle.sto_lang.specs.declared.file.Turns.{Turns}
 use Rattle.sto_lang.specs.Scripts.{File}
 use Rattle.sto_write.specs.Texts.{entries_text}
+use Rattle.sto_run_orders.specs.declared.asked.Asking.{Asking}
+use Rattle.sto_run_orders.specs.declared.asked.Asking.TheVariants.{Where, Never}
 use Rattle.sto_run_orders.specs.declared.report.OrderReport.{OrderReport}
 use Rattle.sto_run_orders.specs.Reports.{entries_in}
 
@@ -49,6 +51,21 @@ sum_line reports = codes "sum orders " ++ (count_text (all_orders reports) ++ (c
 abbrev pub reports_text : File → List OrderReport → List ℕ
 reports_text file reports = flat_map (report_text file) (enumerate_from 1 reports) ++ sum_line reports
 
+-- Text of the outcomes alone that were asked for.
+
+-- the word by which they were asked for
+abbrev pub asking_word : Asking → List ℕ
+asking_word Where = codes "where"
+asking_word Never = codes "never"
+
+-- how many they are, of so many
+abbrev pub asked_line : Asking → ℕ → List OrderReport → List ℕ
+asked_line asking all kept = asking_word asking ++ (codes " " ++ (decimal (length kept) ++ (codes " of " ++ (decimal all ++ codes "\n"))))
+
+-- these, numbered from 1, and then that line
+abbrev pub asked_text : Asking → ℕ → File → List OrderReport → List ℕ
+asked_text asking all file kept = flat_map (report_text file) (enumerate_from 1 kept) ++ asked_line asking all kept
+
 -- JSON: objects on one line, their members in rising order of their names.
 
 -- a number of orders; `many` is a text
@@ -71,6 +88,20 @@ abbrev pub reports_json : File → List OrderReport → List ℕ
 reports_json file reports =
     codes "{\"orders\":" ++ (count_json (all_orders reports) ++ (codes ",\"outcomes\":["
     ++ (join_with_byte 44 (map (report_json file) reports) ++ codes "]}\n")))
+
+-- of how many outcomes some were asked for, and these as an array
+abbrev pub of_json : ℕ → File → List OrderReport → List ℕ
+of_json all file kept =
+    codes "\"of\":" ++ (decimal all ++ (codes ",\"outcomes\":[" ++ (join_with_byte 44 (map (report_json file) kept) ++ codes "]")))
+
+-- the same, and how many they are
+abbrev pub asked_json : Asking → ℕ → File → List OrderReport → List ℕ
+asked_json Where all file kept = codes "{" ++ (of_json all file kept ++ (codes ",\"where\":" ++ (decimal (length kept) ++ codes "}\n")))
+asked_json Never all file kept = codes "{\"never\":" ++ (decimal (length kept) ++ (codes "," ++ (of_json all file kept ++ codes "}\n")))
+
+-- what is printed of the outcomes that were asked for, in the form that is asked for
+abbrev pub asked_in : Bool → Asking → ℕ → File → List OrderReport → List ℕ
+asked_in json asking all file kept = if json then asked_json asking all file kept else asked_text asking all file kept
 
 -- what is printed, in the form that is asked for
 abbrev pub reports_in : Bool → File → List OrderReport → List ℕ

@@ -9,7 +9,7 @@ ghost use Rattle.sto_run.specs.Stores.{means};
 ghost use Rattle.sto_run.specs.Forms.{form_for};
 ghost use Rattle.sto_orders.specs.Causes.{least_told, IsCause};
 ghost use Rattle.sto_orders.specs.Outcomes.{IsOrderOutcome};
-ghost use Rattle.sto_run_orders.specs.Reports.{IsReportBy, IsOutcomeReport, AreOrderReports, TellApart, IsAmong};
+ghost use Rattle.sto_run_orders.specs.Reports.{IsReportBy, HasTold, IsOutcomeReport, AreOrderReports, TellApart, IsAmong};
 
 use crate::order::sort;
 use crate::report::OrderReport;
@@ -64,6 +64,8 @@ pub fn explore_orders(
     ensures reports { IfOk result (λ reports. AreOrderReports by (form_for json) (view file.now) 64 reports.items) }
     // Each is what `step` prints of the file with the schedule that stands with it.
     ensures each { IfOk result (λ reports. All (λ r. IsReportBy (form_for json) (view file.now) 64 r.report.items r.schedule) reports.items) }
+    // The state beside each is the final state that it tells.
+    ensures states { IfOk result (λ reports. All (HasTold (form_for json) (view file.now)) reports.items) }
     // No two tell the same.
     ensures distinct { IfOk result (λ reports. TellApart by (form_for json) (view file.now) reports.items) }
     // Each lawful report, and so what `run` and `step` print with any schedule, tries and threads, tells what one of these tells.

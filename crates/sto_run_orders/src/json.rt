@@ -2,10 +2,12 @@
 ghost use Rattle.std.specs.Prelude.{◌≡◌, ◌∷◌, ◌++◌, map, OnOk};
 ghost use Rattle.std.specs.List.{join_with_byte};
 ghost use Rattle.sto_lang.specs.Views.{file as view};
-ghost use Rattle.sto_run_orders.specs.Texts.{report_json, reports_json};
+ghost use Rattle.sto_run_orders.specs.declared.asked.Asking.TheVariants.{Where, Never};
+ghost use Rattle.sto_run_orders.specs.Texts.{report_json, reports_json, of_json, asked_json};
 
+use crate::asked::Asking;
 use crate::report::OrderReport;
-use crate::words::{all_orders, push_json_count, push_schedule, push_without_end};
+use crate::words::{all_orders, push_json_count, push_number, push_schedule, push_without_end};
 use sto_lang::{File, Text};
 use sto_part::NoMemory;
 
@@ -57,4 +59,53 @@ pub(crate) fn push_json(
     out.append(",\"outcomes\":[")?;
     push_each(out, file, reports)?;
     out.append("]}\n")
+}
+
+// Adds of how many outcomes some were asked for, and these.
+fn push_of(out: &mut Text, file: &File, all: u64, kept: &[OrderReport]) -> Result<(), NoMemory>
+    ensures { OnOk result (out.new.items ≡ out.old.items ++ of_json all (view file.now) kept.now) }
+{
+    out.append("\"of\":")?;
+    push_number(out, all)?;
+    out.append(",\"outcomes\":[")?;
+    push_each(out, file, kept)?;
+    out.append("]")
+}
+
+// Adds the outcomes of which a question is true.
+fn push_where(out: &mut Text, file: &File, all: u64, kept: &[OrderReport]) -> Result<(), NoMemory>
+    ensures { OnOk result (out.new.items ≡ out.old.items ++ asked_json Where all (view file.now) kept.now) }
+{
+    out.append("{")?;
+    push_of(out, file, all, kept)?;
+    out.append(",\"where\":")?;
+    push_number(out, kept.len() as u64)?;
+    out.append("}\n")
+}
+
+// Adds the outcomes that must never be.
+fn push_never(out: &mut Text, file: &File, all: u64, kept: &[OrderReport]) -> Result<(), NoMemory>
+    ensures { OnOk result (out.new.items ≡ out.old.items ++ asked_json Never all (view file.now) kept.now) }
+{
+    out.append("{\"never\":")?;
+    push_number(out, kept.len() as u64)?;
+    out.append(",")?;
+    push_of(out, file, all, kept)?;
+    out.append("}\n")
+}
+
+/// Adds the outcomes that were asked for, of so many, as one line.
+pub(crate) fn push_asked_json(
+    out: &mut Text,
+    file: &File,
+    asking: Asking,
+    all: u64,
+    kept: &[OrderReport],
+) -> Result<(), NoMemory>
+    ensures { OnOk result (out.new.items ≡ out.old.items ++ asked_json asking all (view file.now) kept.now) }
+{
+    match asking {
+        Asking::Where => push_where(out, file, all, kept),
+        Asking::Never => push_never(out, file, all, kept),
+    }
 }

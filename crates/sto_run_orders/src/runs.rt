@@ -200,9 +200,11 @@ impl OrderRuns<'_> {
         };
         let run = self.run;
         let text = report(alloc, run.work.workload.file, &journal, self.json)?;
+        let Journal { state, .. } = journal;
         Ok(OrderReport {
             report: text,
             schedule: None,
+            state,
             orders,
         })
     }
@@ -224,9 +226,11 @@ impl OrderRuns<'_> {
         let LedRun { journal, schedule } = led;
         let run = self.run;
         let text = report(alloc, run.work.workload.file, &journal, self.json)?;
+        let Journal { state, .. } = journal;
         Ok(OrderReport {
             report: text,
             schedule: Some(schedule),
+            state,
             orders: outcome.orders,
         })
     }

@@ -3,10 +3,11 @@ ghost use Rattle.std.specs.Prelude.{◌≡◌, ◌++◌, flat_map, OnOk};
 ghost use Rattle.std.specs.List.{enumerate_from};
 ghost use Rattle.sto_lang.specs.Views.{file as view};
 ghost use Rattle.sto_run_orders.specs.Reports.{entries_in};
-ghost use Rattle.sto_run_orders.specs.Texts.{heading, report_text, schedule_line, sum_line, reports_text};
+ghost use Rattle.sto_run_orders.specs.Texts.{heading, report_text, schedule_line, sum_line, reports_text, asked_line, asked_text};
 
+use crate::asked::Asking;
 use crate::report::OrderReport;
-use crate::words::{all_orders, has_schedule, push_count, push_number, push_schedule};
+use crate::words::{all_orders, has_schedule, push_asking, push_count, push_number, push_schedule};
 use sto_lang::{File, Text};
 use sto_part::NoMemory;
 
@@ -78,4 +79,35 @@ pub(crate) fn push_text(
 {
     push_each(out, file, reports)?;
     push_sum(out, reports)
+}
+
+// Adds the line of how many outcomes were asked for, of so many.
+fn push_asked_line(
+    out: &mut Text,
+    asking: Asking,
+    all: u64,
+    kept: &[OrderReport],
+) -> Result<(), NoMemory>
+    ensures { OnOk result (out.new.items ≡ out.old.items ++ asked_line asking all kept.now) }
+{
+    push_asking(out, asking)?;
+    out.append(" ")?;
+    push_number(out, kept.len() as u64)?;
+    out.append(" of ")?;
+    push_number(out, all)?;
+    out.append("\n")
+}
+
+/// Adds the outcomes that were asked for, of so many, and the line of how many they are.
+pub(crate) fn push_asked_text(
+    out: &mut Text,
+    file: &File,
+    asking: Asking,
+    all: u64,
+    kept: &[OrderReport],
+) -> Result<(), NoMemory>
+    ensures { OnOk result (out.new.items ≡ out.old.items ++ asked_text asking all (view file.now) kept.now) }
+{
+    push_each(out, file, kept)?;
+    push_asked_line(out, asking, all, kept)
 }

@@ -2,8 +2,9 @@
 ghost use Rattle.std.specs.Prelude.{◌≡◌, ◌+◌, ◌++◌, ◌^◌, not, nat_eq, OnOk, decimal, length};
 ghost use Rattle.sto_lang.specs.Views.{file as view};
 ghost use Rattle.sto_run_orders.specs.Reports.{entries_in};
-ghost use Rattle.sto_run_orders.specs.Texts.{count_text, count_json, schedule_text, without_end, orders_at_least, told_below, all_orders};
+ghost use Rattle.sto_run_orders.specs.Texts.{count_text, count_json, schedule_text, without_end, orders_at_least, told_below, all_orders, asking_word};
 
+use crate::asked::Asking;
 use crate::report::OrderReport;
 use itoa::Buffer;
 use sto_lang::{File, Text};
@@ -35,6 +36,16 @@ pub(crate) fn push_json_count(out: &mut Text, count: Option<u64>) -> Result<(), 
     match count {
         Some(number) => push_number(out, number),
         None => out.append("\"many\""),
+    }
+}
+
+/// Adds the word by which outcomes are asked for.
+pub(crate) fn push_asking(out: &mut Text, asking: Asking) -> Result<(), NoMemory>
+    ensures { OnOk result (out.new.items ≡ out.old.items ++ asking_word asking) }
+{
+    match asking {
+        Asking::Where => out.append("where"),
+        Asking::Never => out.append("never"),
     }
 }
 

@@ -15,13 +15,14 @@ use Rattle.sto_interactive.proofs.LastReply.{asked_last}
 use Rattle.sto_shared_store.specs.declared.owned_worker.OwnedWorker.{OwnedWorker}
 use Rattle.sto_shared_store.specs.Owned.{Leads, IsAt, IsOwnedWorker, view_at, replies_of}
 use Rattle.sto_shared_store.proofs.Since.{is_session}
+use Rattle.sto_interactive.specs.Sessions.{live_of}
 
 module _ {T : Type 0} {n : naming.Ghosts T} (t : OfType T) where
   by_session : (s : Store T) (v : View) (call : Call) (a b : Option (Session T n)) → IsAt t s v a → Leads (λ x y. HasAsked t s.ty s.shared x call (Ok tt) y) a b
-      → (rs : Listed Reply) × (option_and_then (λ x. option_map (λ p. p.attempt.table.replies) x.live) b ≡ Some rs) × (0 < length rs.items)
+      → (rs : Listed Reply) × (option_and_then (λ x. option_map (λ p. p.attempt.table.replies) (live_of x)) b ≡ Some rs) × (0 < length rs.items)
   by_session s v call None b h l = absurd h
   by_session s v call (Some x) None h l = absurd l
-  by_session s v call (Some x) (Some y) h l = asked_last t s.ty s.shared x y call x.live refl (is_session t s v x h) l
+  by_session s v call (Some x) (Some y) h l = asked_last t s.ty s.shared x y call (live_of x) refl (is_session t s v x h) l
 
   pub answered_last : (w v : OwnedWorker T n) (call : Call) → IsOwnedWorker t w → Leads (λ x y. HasAsked t (arc_value w.store).ty (arc_value w.store).shared x call (Ok tt) y) w.session v.session
       → (rs : Listed Reply) × (replies_of v ≡ Some rs) × (0 < length rs.items)

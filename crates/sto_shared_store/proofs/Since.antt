@@ -18,7 +18,7 @@ use Rattle.sto_interactive.specs.declared.asking.AskError.{AskError}
 use Rattle.sto_interactive.specs.declared.asking.AskError.TheVariants as ask_error
 use Rattle.sto_interactive.specs.declared.ending.CommitError.{CommitError}
 use Rattle.sto_interactive.specs.declared.ending.CommitError.TheVariants as commit_error
-use Rattle.sto_interactive.specs.Sessions.{Stands, IsSessionOf, IsFree, IsAsking, view_of}
+use Rattle.sto_interactive.specs.Sessions.{live_of, Stands, IsSessionOf, IsFree, IsAsking, view_of}
 use Rattle.sto_interactive.specs.Steps.{IsUnchanged, HasFailed, HasBegun, HasAsked, HasAskedAfter, HasEndedBy, HasCommittedAfter, HasCancelledAfter}
 use Rattle.sto_shared_store.specs.declared.store.Store.{Store}
 use Rattle.std.specs.Arc.{arc_value}
@@ -36,7 +36,7 @@ module _ {T : Type 0} (t : OfType T) (s : Store T) (v : View) where
 
 module _ {T : Type 0} {n : naming.Ghosts T} (t : OfType T) (s : Store T) (v : View) where
   pub is_session : (x : Session T n) → IsAt t s v (Some x) → IsSessionOf t s.ty s.shared x
-  is_session x h = stands t s v x.live x.rest.seat x.left h
+  is_session x h = stands t s v (live_of x) x.rest.seat x.left h
 
   free_since : (y : Session T n) → IsFree t s.ty s.shared y → Grows v (view_of y) → IsAt t s v (Some y)
   free_since y free grows = subst (λ (o : Option RestingTransaction). StandsSince t s v o y.rest.seat y.left) (sym free.none) (free.rests, grows)
@@ -51,11 +51,11 @@ module _ {T : Type 0} {n : naming.Ghosts T} (t : OfType T) (s : Store T) (v : Vi
   pub unchanged_since : (x y : Session T n) → IsUnchanged x y → IsAt t s v (Some x) → IsAt t s v (Some y)
   unchanged_since x y u h =
       subst (λ (o : Option RestingTransaction). StandsSince t s v o y.rest.seat y.left) (sym u.2)
-      (subst (λ (r : Rest T n). StandsSince t s v x.live r.seat y.left) (sym u.0)
-      (subst (λ (k : ℕ). StandsSince t s v x.live x.rest.seat k) (sym u.1) h))
+      (subst (λ (r : Rest T n). StandsSince t s v (live_of x) r.seat y.left) (sym u.0)
+      (subst (λ (k : ℕ). StandsSince t s v (live_of x) x.rest.seat k) (sym u.1) h))
 
   -- what it knows where it is in no transaction
-  pub grown : (x : Session T n) → x.live ≡ None → IsAt t s v (Some x) → Grows v (view_of x)
+  pub grown : (x : Session T n) → live_of x ≡ None → IsAt t s v (Some x) → Grows v (view_of x)
   grown x none h = (subst (λ (o : Option RestingTransaction). StandsSince t s v o x.rest.seat x.left) none h).1
 
   pub begun_since : (x y : Session T n) (r : Result (Unit {0}) BeginError) → IsAt t s v (Some x) → HasBegun t s.ty s.shared x r y → IsAt t s v (Some y)
@@ -87,32 +87,32 @@ module _ {T : Type 0} {n : naming.Ghosts T} (t : OfType T) (s : Store T) (v : Vi
   after_cancelled calls rs begun (Err commit_error.NoMemory) y grows h = failed_since y begun grows h
 
   -- by whether it was in a transaction
-  asked_by : (x y : Session T n) (call : Call) (r : Result (Unit {0}) AskError) (o : Option RestingTransaction) → x.live ≡ o → StandsSince t s v o x.rest.seat x.left → IsAt t s v (Some x)
+  asked_by : (x y : Session T n) (call : Call) (r : Result (Unit {0}) AskError) (o : Option RestingTransaction) → live_of x ≡ o → StandsSince t s v o x.rest.seat x.left → IsAt t s v (Some x)
       → HasAsked t s.ty s.shared x call r y → IsAt t s v (Some y)
   asked_by x y call r None e h is a = unchanged_since x y (a.free e).1 is
   asked_by x y call r (Some p) e h is a = after_asked h.0 h.1 h.2 call r y h.4 (a.asking h.0 h.1 h.2 (record { paused = p; live = e; waits = h.3 }))
 
   pub asked_since : (x y : Session T n) (call : Call) (r : Result (Unit {0}) AskError) → IsAt t s v (Some x) → HasAsked t s.ty s.shared x call r y → IsAt t s v (Some y)
-  asked_since x y call r h a = asked_by x y call r x.live refl h h a
+  asked_since x y call r h a = asked_by x y call r (live_of x) refl h h a
 
-  committed_by : (x y : Session T n) (r : Result ℕ CommitError) (o : Option RestingTransaction) → x.live ≡ o → StandsSince t s v o x.rest.seat x.left → IsAt t s v (Some x)
+  committed_by : (x y : Session T n) (r : Result ℕ CommitError) (o : Option RestingTransaction) → live_of x ≡ o → StandsSince t s v o x.rest.seat x.left → IsAt t s v (Some x)
       → HasEndedBy t s.ty s.shared x r y (HasCommittedAfter t s.ty s.shared) → IsAt t s v (Some y)
   committed_by x y r None e h is a = unchanged_since x y (a.free e).1 is
   committed_by x y r (Some p) e h is a = after_committed h.0 h.1 h.2 r y h.4 (a.asking h.0 h.1 h.2 (record { paused = p; live = e; waits = h.3 }))
 
   pub committed_since : (x y : Session T n) (r : Result ℕ CommitError) → IsAt t s v (Some x) → HasEndedBy t s.ty s.shared x r y (HasCommittedAfter t s.ty s.shared) → IsAt t s v (Some y)
-  committed_since x y r h a = committed_by x y r x.live refl h h a
+  committed_since x y r h a = committed_by x y r (live_of x) refl h h a
 
-  cancelled_by : (x y : Session T n) (r : Result ℕ CommitError) (o : Option RestingTransaction) → x.live ≡ o → StandsSince t s v o x.rest.seat x.left → IsAt t s v (Some x)
+  cancelled_by : (x y : Session T n) (r : Result ℕ CommitError) (o : Option RestingTransaction) → live_of x ≡ o → StandsSince t s v o x.rest.seat x.left → IsAt t s v (Some x)
       → HasEndedBy t s.ty s.shared x r y (HasCancelledAfter t s.ty s.shared) → IsAt t s v (Some y)
   cancelled_by x y r None e h is a = unchanged_since x y (a.free e).1 is
   cancelled_by x y r (Some p) e h is a = after_cancelled h.0 h.1 h.2 r y h.4 (a.asking h.0 h.1 h.2 (record { paused = p; live = e; waits = h.3 }))
 
   pub cancelled_since : (x y : Session T n) (r : Result ℕ CommitError) → IsAt t s v (Some x) → HasEndedBy t s.ty s.shared x r y (HasCancelledAfter t s.ty s.shared) → IsAt t s v (Some y)
-  cancelled_since x y r h a = cancelled_by x y r x.live refl h h a
+  cancelled_since x y r h a = cancelled_by x y r (live_of x) refl h h a
 
   -- where it is in no transaction it comes back
-  pub comes_back : (hired : Hired T n) (x : Session T n) (w : CountedRest T n) → arc_value hired.store ≡ s → hired.worker.rest.seat.me.0.view ≡ v → w.rest ≡ x.rest → x.live ≡ None → IsAt t s v (Some x)
+  pub comes_back : (hired : Hired T n) (x : Session T n) (w : CountedRest T n) → arc_value hired.store ≡ s → hired.worker.rest.seat.me.0.view ≡ v → w.rest ≡ x.rest → live_of x ≡ None → IsAt t s v (Some x)
       → HasComeBack (t.meaning (arc_value hired.store).ty) (t.sizes (arc_value hired.store).ty) (arc_value hired.store).shared hired.worker w
   comes_back hired x w home was same none h =
       let r : StandsSince t s v None x.rest.seat x.left = subst (λ (o : Option RestingTransaction). StandsSince t s v o x.rest.seat x.left) none h in

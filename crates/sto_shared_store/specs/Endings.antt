@@ -21,6 +21,7 @@ use Rattle.sto_shared_store.specs.declared.owned_worker.GiveBackError.{GiveBackE
 use Rattle.sto_shared_store.specs.declared.owned_worker.GiveBackError.TheVariants as out_still
 use Rattle.sto_shared_store.specs.Back.{HasComeBack}
 use Rattle.sto_shared_store.specs.Owned.{Leads}
+use Rattle.sto_interactive.specs.Sessions.{live_of}
 
 module _ {T : Type 0} {n : naming.Ghosts T} (t : OfType T) where
   -- from x to y a store has taken in one of the workers that were out: its slot is gone, and the worker rests behind the others
@@ -44,7 +45,7 @@ module _ {T : Type 0} {n : naming.Ghosts T} where
   pub record IsOfWorker (worker : CountedRest T n) (x : Session T n) : Type 0 where
     pub rest : x.rest ≡ worker.rest
     pub left : x.left ≡ worker.left
-    pub free : x.live ≡ None
+    pub free : live_of x ≡ None
 
   -- from x to y a store keeps one slot more, which it lends to this worker
   pub record HasLent (hired : Hired T n) (x y : OwnedStore T n) : Type 0 where
@@ -82,9 +83,9 @@ module _ {T : Type 0} {n : naming.Ghosts T} where
 
   -- it is in no transaction
   abbrev pub IsFreeWorker : OwnedWorker T n → Type 0
-  IsFreeWorker x = IfSome x.session (λ s. s.live ≡ None)
+  IsFreeWorker x = IfSome x.session (λ s. live_of s ≡ None)
 
   -- it is as it was: in a transaction, or, where another call is at its slot, in none
   abbrev pub StaysOut : OwnedWorker T n → GiveBackError T n → Type 0
-  StaysOut x (out_still.InTransaction y) = (y ≡ x) × IfSome x.session (λ s. s.live ≢ None)
+  StaysOut x (out_still.InTransaction y) = (y ≡ x) × IfSome x.session (λ s. live_of s ≢ None)
   StaysOut x (out_still.Busy y) = (y.store ≡ x.store) × (y.slot ≡ x.slot) × Leads IsUnchanged x.session y.session × IsFreeWorker x

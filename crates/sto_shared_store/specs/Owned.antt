@@ -19,7 +19,7 @@ use Rattle.sto_shared_store.specs.declared.store.Store.{Store}
 use Rattle.sto_shared_store.specs.declared.worker.CountedRest.{CountedRest}
 use Rattle.sto_shared_store.specs.Working.{IsWorker}
 use Rattle.sto_interactive.specs.declared.session.Session.{Session}
-use Rattle.sto_interactive.specs.Sessions.{Rests, Waits}
+use Rattle.sto_interactive.specs.Sessions.{live_of, Rests, Waits}
 use Rattle.sto_shared_store.specs.declared.given.Hired.{Hired}
 use Rattle.sto_shared_store.specs.declared.owned_store.OwnedStore.{OwnedStore}
 use Rattle.sto_shared_store.specs.declared.owned_worker.OwnedWorker.{OwnedWorker}
@@ -31,7 +31,7 @@ Leads to _ _ = ⊥
 
 -- what the calls of its transaction were answered so far, if it is in one
 abbrev pub replies_of : {T : Type 0} {n : naming.Ghosts T} → OwnedWorker T n → Option (Listed Reply)
-replies_of w = option_and_then (λ x. option_map (λ p. p.attempt.table.replies) x.live) w.session
+replies_of w = option_and_then (λ x. option_map (λ p. p.attempt.table.replies) (live_of x)) w.session
 
 -- what a worker knew when it was given out, to whom this slot was lent
 abbrev pub view_at : {T : Type 0} {n : naming.Ghosts T} → Arc (Hired T n) Global → View
@@ -47,7 +47,7 @@ module _ {T : Type 0} (t : OfType T) where
 module _ {T : Type 0} {n : naming.Ghosts T} (t : OfType T) where
   -- the session of such a pass
   abbrev pub IsAt : Store T → View → Option (Session T n) → Type 0
-  IsAt s v (Some x) = StandsSince t s v x.live x.rest.seat x.left
+  IsAt s v (Some x) = StandsSince t s v (live_of x) x.rest.seat x.left
   IsAt s v None = ⊥
 
   -- it comes back to its own store, with all that it knew when it was given out

@@ -16,7 +16,7 @@ use crate::worker::{CountedRest, CountedRests};
 use counted_slot::Counted;
 use std::alloc::Global;
 use std::sync::Arc;
-use sto_interactive::Session;
+use sto_interactive::SessionRoom;
 use sto_model::State;
 use sto_part::{List, NoMemory};
 use sto_type::TxType;
@@ -126,12 +126,15 @@ impl<T: TxType + Drop> OwnedStore<T> {
         let Ok(store) = Arc::try_clone(&self.store) else {
             return Err(HireError::NoMemory);
         };
+        let Ok(room) = SessionRoom::new(alloc) else {
+            return Err(HireError::NoMemory);
+        };
         let Some(worker) = self.idle.pop() else {
             unreachable!()
         };
         let hired = Hired { store, worker };
         match self.lend_slot(alloc, &hired) {
-            Ok(slot) => Ok(OwnedWorker::new(alloc, hired, slot)),
+            Ok(slot) => Ok(OwnedWorker::new(hired, slot, room)),
             Err(NoMemory) => {
                 let Hired {
                     store: _store,

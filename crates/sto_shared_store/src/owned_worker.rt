@@ -1,6 +1,7 @@
 //! A worker of a store.
-ghost use Rattle.std.specs.Prelude.{◌≡◌, IfSome, IfOk, IfErr, is_some, option_map};
+ghost use Rattle.std.specs.Prelude.{◌≡◌, None, IfSome, IfOk, IfErr, is_some, option_map};
 ghost use Rattle.std.specs.Arc.{arc_value};
+ghost use Rattle.sto_interactive.specs.Sessions.{live_of};
 ghost use Rattle.sto_shared_store.specs.Working.{IsWorker};
 ghost use Rattle.sto_interactive.specs.Steps.{HasBegun, HasAsked, HasEndedBy, HasCommittedAfter, HasCancelledAfter};
 ghost use Rattle.sto_shared_store.specs.Owned.{Leads, IsOwnedWorker, replies_of};
@@ -12,7 +13,7 @@ use crate::worker::CountedRest;
 use std::alloc::Global;
 use std::mem;
 use std::sync::Arc;
-use sto_interactive::{AskError, BeginError, CommitError, Session, StepLists};
+use sto_interactive::{AskError, BeginError, CommitError, Session, SessionRoom};
 use sto_model::{Call, Replies};
 use sto_type::TxType;
 
@@ -44,29 +45,26 @@ pub enum GiveBackError<T: TxType + Drop> {
     Busy(OwnedWorker<T>),
 }
 
-// The worker of a session, and its memory.
-fn idle_of<T: TxType + Drop>(session: Session<T>) -> (CountedRest<T>, StepLists)
-    ensures { (result.0.rest ≡ session.rest) × (result.0.left ≡ session.left) }
+// The worker of a session, and its room.
+fn idle_of<T: TxType + Drop>(session: Session<T>) -> (CountedRest<T>, Box<SessionRoom>)
+    ensures worker { (result.0.rest ≡ session.rest) × (result.0.left ≡ session.left) }
+    ensures room { result.1 ≡ session.room }
 {
-    let Session {
-        rest,
-        left,
-        live: _live,
-        memory,
-    } = session;
-    (CountedRest { rest, left }, memory)
+    let Session { rest, left, room } = session;
+    (CountedRest { rest, left }, room)
 }
 
 impl<T: TxType + Drop> OwnedWorker<T> {
-    /// A worker that is given out.
+    /// A worker that is given out, with room for its transactions.
     pub(crate) fn new(
-        alloc: Global,
         hired: Hired<T>,
         slot: Arc<ReturnSlot<T>, Global>,
+        room: Box<SessionRoom>,
     ) -> OwnedWorker<T>
         requires rests { IsWorker (T.meaning (arc_value hired.store).ty) (T.sizes (arc_value hired.store).ty)
             (arc_value hired.store).shared hired.worker.rest.seat }
         requires slot { arc_value slot ≡ hired }
+        requires free { room.value.live ≡ None }
         ensures store { (result.store ≡ hired.store) × (result.slot ≡ slot) }
         ensures worker { IsOwnedWorker T.TxType result }
         ensures session { IfSome result.session (IsOfWorker hired.worker) }
@@ -76,7 +74,7 @@ impl<T: TxType + Drop> OwnedWorker<T> {
         OwnedWorker {
             store,
             slot,
-            session: Some(Session::new(rest, left, StepLists::new(alloc))),
+            session: Some(Session::new(rest, left, room)),
         }
     }
 
@@ -168,10 +166,10 @@ impl<T: TxType + Drop> OwnedWorker<T> {
 
     // Whether it is in a transaction.
     fn is_in_transaction(&self) -> bool
-        ensures { IfSome self.now.session (λ x. result ≡ is_some x.live) }
+        ensures { IfSome self.now.session (λ x. result ≡ is_some (live_of x)) }
     {
         match &self.session {
-            Some(session) => session.live.is_some(),
+            Some(session) => session.room.live.is_some(),
             None => false,
         }
     }
@@ -194,13 +192,13 @@ impl<T: TxType + Drop> OwnedWorker<T> {
         let Some(session) = session else {
             unreachable!()
         };
-        let (worker, memory) = idle_of(session);
+        let (worker, room) = idle_of(session);
         match give(&*slot, worker) {
             Ok(()) => Ok(()),
             Err(CountedRest { rest, left }) => Err(GiveBackError::Busy(OwnedWorker {
                 store,
                 slot,
-                session: Some(Session::new(rest, left, memory)),
+                session: Some(Session::new(rest, left, room)),
             })),
         }
     }

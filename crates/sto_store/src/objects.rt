@@ -17,7 +17,7 @@ use sto_counter::TCounter;
 use sto_item::Item;
 use sto_model::{Call, State};
 use sto_part::{Contents, List, Naming, NoMemory, Pred};
-use sto_type::{Answer, AnswerPool, Both, Home, KnownParts, TxType};
+use sto_type::{Answer, AnswerPool, Both, Home, KnownParts, Said, TxType};
 
 type AllKinds = Both<Boxes, Both<Counters, Wide>>;
 
@@ -111,6 +111,17 @@ impl TxType for Objects {
         cache: &KnownParts<'_>,
     ) -> Result<Answer, NoMemory> {
         self.store.plan(alloc, pool, call, cache)
+    }
+
+    fn say(
+        &self,
+        alloc: Global,
+        call: &Call,
+        first: u32,
+        cache: &KnownParts<'_>,
+        said: &mut Said,
+    ) -> Result<Option<u32>, NoMemory> {
+        self.store.say(alloc, call, first, cache, said)
     }
 
     fn guard(&self, item: &Item) -> u32 {

@@ -14,7 +14,7 @@ use sto_item::Item;
 use sto_model::{Call, State};
 use sto_part::{Contents, Naming, NoMemory, Pred};
 use sto_tree::TTree;
-use sto_type::{Answer, AnswerPool, Both, Home, KnownParts, TxType};
+use sto_type::{Answer, AnswerPool, Both, Home, KnownParts, Said, TxType};
 use sto_vector::TVector;
 
 type Kinds = Both<Arrays, Both<Hashes, Sized>>;
@@ -98,6 +98,17 @@ impl TxType for Wide {
         cache: &KnownParts<'_>,
     ) -> Result<Answer, NoMemory> {
         self.kinds.plan(alloc, pool, call, cache)
+    }
+
+    fn say(
+        &self,
+        alloc: Global,
+        call: &Call,
+        first: u32,
+        cache: &KnownParts<'_>,
+        said: &mut Said,
+    ) -> Result<Option<u32>, NoMemory> {
+        self.kinds.say(alloc, call, first, cache, said)
     }
 
     fn guard(&self, item: &Item) -> u32 {

@@ -10,3 +10,5 @@ pub mod Outputs
 pub mod Summaries
 pub mod Feeds
 pub mod Findings
+pub mod Scheduled
+pub mod Questions

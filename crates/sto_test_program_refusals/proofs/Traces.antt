@@ -26,6 +26,7 @@ use Rattle.sto_args.specs.declared.command.Command.TheVariants.{Trace}
 use Rattle.sto_cli.specs.Outputs.{IsOutput}
 use Rattle.sto_test_refusals.proofs.Lists.{none_behind}
 use Rattle.sto_test_program_refusals.specs.Inputs.{lost_update, lost_update_file}
+use Rattle.sto_test_program_refusals.proofs.Scheduled.{scheduled_as}
 use Rattle.sto_test_program_refusals.proofs.Texts.{no_front, none_before}
 use Rattle.sto_test_program_refusals.proofs.Runs.{not_one_event, not_still}
 
@@ -71,8 +72,8 @@ traced json file same t =
     (subst (λ (f : File). IsTraceOf f 64 t.journal t.homes (Some [])) same
     (subst (λ (o : RunLog). IsTraceOf file 64 t.journal t.homes o) steps t.run))
 
-pub trace_nothing : (json : Bool) → IsOutput (Trace 64 json) lost_update [] → ⊥
-trace_nothing json o = let same : o.0 ≡ lost_update_file = let e = sym o.1.0 ∙ reads_lost_update in cc in traced json o.0 same o.2
+pub trace_nothing : (json : Bool) → IsOutput (Trace 64 json None) lost_update [] → ⊥
+trace_nothing json o = traced json o.0 (scheduled_as lost_update lost_update_file o.0 reads_lost_update o.1.0) o.2
 
 pub no_event_drawn : (text : List ℕ) (p : IsPicture 64 lost_update_file text) → p.steps ≡ [] → ⊥
 no_event_drawn text p none = no_events p.journal p.homes (subst (λ (steps : List Step). IsTraceOf lost_update_file 64 p.journal p.homes (Some steps)) none p.run)

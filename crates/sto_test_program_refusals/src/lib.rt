@@ -16,4 +16,4 @@ mod sto;
 pub use check::not_found;
 pub use feed::not_fed;
 pub use steps::no_run;
-pub use sto::{not_ended, not_generated, not_run, not_stepped};
+pub use sto::{not_asked, not_ended, not_generated, not_run, not_scheduled, not_stepped};

@@ -3,8 +3,10 @@ mod checking;
 mod program;
 mod running;
 mod streams;
+mod words;
 
 pub use checking::call_check;
 pub use program::{Call, Program};
 pub use running::{call, call_feed};
 pub use streams::{Called, Failing, NONE};
+pub use words::words_in;

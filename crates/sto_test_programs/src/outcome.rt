@@ -1,5 +1,5 @@
 //! What a program does with words and a script.
-use crate::calls::{Called, NONE, call, call_feed};
+use crate::calls::{Called, NONE, call, call_feed, words_in};
 use std::alloc::{AllocError, Global};
 use std::str;
 use std::sync::Wait;
@@ -23,7 +23,7 @@ pub fn outcome_of<R: Threads + Sync, G: Gate>(
     script: &str,
     gate: &G,
 ) -> Result<Outcome, AllocError> {
-    let words: Vec<&str> = words.split_whitespace().collect(alloc)?;
+    let words = words_in(alloc, words)?;
     as_text(
         alloc,
         call(threads, alloc, words.as_slice(), script, NONE, gate),
@@ -38,7 +38,7 @@ pub fn outcome_of_feed<R: Threads + Wait + Sync, G: Gate>(
     script: &str,
     gate: &G,
 ) -> Result<Outcome, AllocError> {
-    let words: Vec<&str> = words.split_whitespace().collect(alloc)?;
+    let words = words_in(alloc, words)?;
     as_text(
         alloc,
         call_feed(threads, alloc, words.as_slice(), script, NONE, gate),

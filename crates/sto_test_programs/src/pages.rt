@@ -7,7 +7,7 @@ use std::{fs, io};
 use sto_cli::NoGate;
 
 /// The pages that show runs. The examples that they name lie beside them.
-pub const PAGES: [&str; 8] = [
+pub const PAGES: [&str; 9] = [
     "language.md",
     "report.md",
     "statuses.md",
@@ -15,6 +15,7 @@ pub const PAGES: [&str; 8] = [
     "steps.md",
     "cases.md",
     "explore.md",
+    "questions.md",
     "schedules.md",
 ];
 
@@ -31,6 +32,15 @@ fn is_as_stored<R: Threads + Sync>(
     Ok(outcome.status == 0 && outcome.said.is_empty() && outcome.written == stored)
 }
 
+// The words before an arrow and the file behind it, where the arrow stands in no quotes.
+fn redirected<'a>(command: &'a str, arrow: &str) -> Option<(&'a str, &'a str)> {
+    let (words, file) = command.rsplit_once(arrow)?;
+    if file.contains('\'') {
+        return None;
+    }
+    Some((words, file))
+}
+
 // Whether a run writes what the page shows, with the status where the page shows it, and else with status 0.
 fn is_as_shown<R: Threads + Sync>(
     rt: &HostRuntime,
@@ -38,12 +48,12 @@ fn is_as_shown<R: Threads + Sync>(
     example: &Example,
 ) -> io::Result<bool> {
     let shown = example.command.as_str();
-    if let Some((words, file)) = shown.split_once(" > ") {
+    if let Some((words, file)) = redirected(shown, " > ") {
         return is_as_stored(rt, threads, words, example.script.as_str(), file);
     }
     let asked = shown.strip_suffix("; echo $?");
     let command = asked.unwrap_or(shown);
-    let outcome = match command.split_once(" < ") {
+    let outcome = match redirected(command, " < ") {
         Some((words, file)) => {
             let script = fs::read_to_string(rt, file)?;
             outcome_of(threads, rt.alloc(), words, script.as_str(), &NoGate)?

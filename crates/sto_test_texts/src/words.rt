@@ -1,6 +1,6 @@
 //! Words that are commands, and words that are not.
 use std::alloc::{AllocError, Global};
-use sto_args::{By, Command, find_command};
+use sto_args::{Asked, By, Command, GivenText, find_command};
 
 fn words_of(alloc: Global, words: &[&str]) -> Result<Vec<String>, AllocError> {
     let mut texts = Vec::new(alloc);
@@ -10,169 +10,178 @@ fn words_of(alloc: Global, words: &[&str]) -> Result<Vec<String>, AllocError> {
     Ok(texts)
 }
 
-const COMMANDS: &[(&[&str], Command)] = &[
-    (
-        &["run"],
-        Command::Run {
-            threads: None,
-            tries: 64,
-            json: false,
-        },
-    ),
-    (
-        &["run", "--tries=3"],
-        Command::Run {
-            threads: None,
-            tries: 3,
-            json: false,
-        },
-    ),
-    (
-        &["run", "--tries", "1"],
-        Command::Run {
-            threads: None,
-            tries: 1,
-            json: false,
-        },
-    ),
+// What a command says besides texts.
+type Numbers = (&'static str, u64, u64, bool);
+
+// Words, and the command that they are: its name, a number of its own, its tries, its number or its states, and whether it prints JSON.
+const COMMANDS: &[(&[&str], Numbers)] = &[
+    (&["run"], ("run", 0, 64, false)),
+    (&["run", "--tries=3"], ("run", 0, 3, false)),
+    (&["run", "--tries", "1"], ("run", 0, 1, false)),
     (
         &["run", "--json", "--tries", "64", "--threads=16"],
-        Command::Run {
-            threads: Some(16),
-            tries: 64,
-            json: true,
-        },
+        ("run", 16, 64, true),
     ),
-    (
-        &["run", "--threads", "1", "--json"],
-        Command::Run {
-            threads: Some(1),
-            tries: 64,
-            json: true,
-        },
-    ),
-    (
-        &["step"],
-        Command::Step {
-            tries: 64,
-            json: false,
-        },
-    ),
-    (
-        &["step", "--json", "--tries", "1"],
-        Command::Step {
-            tries: 1,
-            json: true,
-        },
-    ),
-    (
-        &["trace"],
-        Command::Trace {
-            tries: 64,
-            json: false,
-        },
-    ),
-    (
-        &["trace", "--tries=2", "--json"],
-        Command::Trace {
-            tries: 2,
-            json: true,
-        },
-    ),
-    (&["draw"], Command::Draw { tries: 64 }),
-    (&["draw", "--tries", "2"], Command::Draw { tries: 2 }),
+    (&["run", "--threads", "1", "--json"], ("run", 1, 64, true)),
+    (&["step"], ("step", 0, 64, false)),
+    (&["step", "--json", "--tries", "1"], ("step", 0, 1, true)),
+    (&["trace"], ("trace", 0, 64, false)),
+    (&["trace", "--tries=2", "--json"], ("trace", 0, 2, true)),
+    (&["draw"], ("draw", 0, 64, false)),
+    (&["draw", "--tries", "2"], ("draw", 0, 2, false)),
     (
         &["explore"],
-        Command::Explore {
-            by: By::State,
-            states: 1_000_000,
-            json: false,
-        },
+        ("explore", By::State as u64, 1_000_000, false),
     ),
     (
         &["explore", "--json", "--by=answers", "--states", "1"],
-        Command::Explore {
-            by: By::Answers,
-            states: 1,
-            json: true,
-        },
+        ("explore", By::Answers as u64, 1, true),
     ),
     (
         &["explore", "--by", "order", "--states=1000000000"],
-        Command::Explore {
-            by: By::Order,
-            states: 1_000_000_000,
-            json: false,
-        },
+        ("explore", By::Order as u64, 1_000_000_000, false),
     ),
     (
         &["explore", "--by", "state"],
-        Command::Explore {
-            by: By::State,
-            states: 1_000_000,
-            json: false,
-        },
+        ("explore", By::State as u64, 1_000_000, false),
     ),
-    (
-        &["schedules"],
-        Command::Schedules {
-            switches: 2,
-            tries: 64,
-            json: false,
-        },
-    ),
+    (&["schedules"], ("schedules", 2, 64, false)),
     (
         &["schedules", "--json", "--switches=8", "--tries", "1"],
-        Command::Schedules {
-            switches: 8,
-            tries: 1,
-            json: true,
-        },
+        ("schedules", 8, 1, true),
     ),
     (
         &["schedules", "--switches", "0"],
-        Command::Schedules {
-            switches: 0,
-            tries: 64,
-            json: false,
-        },
+        ("schedules", 0, 64, false),
     ),
-    (&["upgrade"], Command::Upgrade),
-    (&["gen", "0"], Command::Gen { number: 0 }),
-    (&["gen", "1"], Command::Gen { number: 1 }),
-    (&["gen", "7"], Command::Gen { number: 7 }),
+    (&["upgrade"], ("upgrade", 0, 0, false)),
+    (&["gen", "0"], ("gen", 0, 0, false)),
+    (&["gen", "1"], ("gen", 0, 1, false)),
+    (&["gen", "7"], ("gen", 0, 7, false)),
     (
         &["gen", "18446744073709551615"],
-        Command::Gen { number: u64::MAX },
+        ("gen", 0, u64::MAX, false),
     ),
-    (
-        &["bench", "1"],
-        Command::Bench {
-            number: 1,
-            threads: None,
-        },
-    ),
-    (
-        &["bench", "--threads", "4", "7"],
-        Command::Bench {
-            number: 7,
-            threads: Some(4),
-        },
-    ),
+    (&["bench", "1"], ("bench", 0, 1, false)),
+    (&["bench", "--threads", "4", "7"], ("bench", 4, 7, false)),
 ];
 
 // The commands of the program, with their options in both forms.
 #[test]
 fn example_commands(rt: HostRuntime) {
-    for (words, command) in COMMANDS {
-        assert_eq!(rt; finds(rt.alloc(), words, Some(*command)), Ok(true));
+    for (words, numbers) in COMMANDS {
+        assert_eq!(rt; finds(rt.alloc(), words, Some(*numbers)), Ok(true));
     }
 }
 
-// Whether this is the command that the words are; none where they are no command.
-fn finds(alloc: Global, words: &[&str], command: Option<Command>) -> Result<bool, AllocError> {
+// The text of an option, where it is given.
+fn text_of(text: &Option<GivenText>) -> Option<&[u8]> {
+    text.as_ref().map(|text| text.as_bytes())
+}
+
+// What is asked of outcomes: whether there must be none, and the text.
+fn asked_of(asked: &Option<Asked>) -> Option<(bool, &[u8])> {
+    match asked {
+        None => None,
+        Some(Asked::Where(text)) => Some((false, text.as_bytes())),
+        Some(Asked::Never(text)) => Some((true, text.as_bytes())),
+    }
+}
+
+// What a command says besides texts.
+fn numbers_of(command: &Command) -> Numbers {
+    match command {
+        Command::Run {
+            threads,
+            tries,
+            json,
+        } => ("run", threads.unwrap_or(0).into(), (*tries).into(), *json),
+        Command::Step { tries, json, .. } => ("step", 0, (*tries).into(), *json),
+        Command::Trace { tries, json, .. } => ("trace", 0, (*tries).into(), *json),
+        Command::Draw { tries, .. } => ("draw", 0, (*tries).into(), false),
+        Command::Explore {
+            by,
+            states,
+            json,
+            ..
+        } => ("explore", *by as u64, *states, *json),
+        Command::Schedules {
+            switches,
+            tries,
+            json,
+        } => ("schedules", (*switches).into(), (*tries).into(), *json),
+        Command::Upgrade => ("upgrade", 0, 0, false),
+        Command::Gen { number } => ("gen", 0, *number, false),
+        Command::Bench { number, threads } => (
+            "bench",
+            threads.unwrap_or(0).into(),
+            *number,
+            false,
+        ),
+    }
+}
+
+// The schedule and the question of a command.
+fn texts_of(command: &Command) -> (Option<&[u8]>, Option<(bool, &[u8])>) {
+    match command {
+        Command::Step { schedule, .. }
+        | Command::Trace { schedule, .. }
+        | Command::Draw { schedule, .. } => (text_of(schedule), None),
+        Command::Explore { asked, .. } => (None, asked_of(asked)),
+        _ => (None, None),
+    }
+}
+
+// Whether the words are the command that says just these numbers, and no text; none where they are no command.
+fn finds(alloc: Global, words: &[&str], numbers: Option<Numbers>) -> Result<bool, AllocError> {
     let words = words_of(alloc, words)?;
-    Ok(find_command(alloc, words.as_slice()) == Ok(command))
+    match (find_command(alloc, words.as_slice()), numbers) {
+        (Ok(None), None) => Ok(true),
+        (Ok(Some(command)), Some(numbers)) => {
+            Ok(numbers_of(&command) == numbers && texts_of(&command) == (None, None))
+        }
+        (Ok(_), _) => Ok(false),
+        (Err(_), _) => Err(AllocError),
+    }
+}
+
+// The schedule, or what is asked of outcomes, that words have.
+fn has_texts(
+    alloc: Global,
+    words: &[&str],
+    schedule: Option<&[u8]>,
+    asked: Option<(bool, &[u8])>,
+) -> Result<bool, AllocError> {
+    let words = words_of(alloc, words)?;
+    match find_command(alloc, words.as_slice()) {
+        Ok(Some(command)) => Ok(texts_of(&command) == (schedule, asked)),
+        _ => Ok(false),
+    }
+}
+
+// The texts of options are those of the words, whatever they are.
+#[test]
+fn texts_of_options(rt: HostRuntime) {
+    let alloc = rt.alloc();
+    let schedule = Some(b"1:4 0:10".as_slice());
+    let step = ["step", "--schedule", "1:4 0:10"];
+    assert_eq!(rt; has_texts(alloc, step.as_slice(), schedule, None), Ok(true));
+    let trace = ["trace", "--schedule=1:4 0:10", "--json"];
+    assert_eq!(rt;
+        has_texts(alloc, trace.as_slice(), schedule, None),
+        Ok(true)
+    );
+    let draw = ["draw", "--schedule", ""];
+    assert_eq!(rt;
+        has_texts(alloc, draw.as_slice(), Some(b"".as_slice()), None),
+        Ok(true)
+    );
+    let only = ["explore", "--where", "a = 1"];
+    let asked = Some((false, b"a = 1".as_slice()));
+    assert_eq!(rt; has_texts(alloc, only.as_slice(), None, asked), Ok(true));
+    let never = ["explore", "--by", "order", "--never=-1 = a"];
+    let asked = Some((true, b"-1 = a".as_slice()));
+    assert_eq!(rt; has_texts(alloc, never.as_slice(), None, asked), Ok(true));
 }
 
 const NO_COMMANDS: &[&[&str]] = &[
@@ -204,6 +213,16 @@ const NO_COMMANDS: &[&[&str]] = &[
     &["explore", "--tries", "2"],
     &["explore", "--switches", "2"],
     &["explore", "2"],
+    &["explore", "--where", "a = 1", "--never", "a = 2"],
+    &["explore", "--where", "a = 1", "--where", "a = 1"],
+    &["explore", "--where"],
+    &["explore", "--where", "-1 = a"],
+    &["explore", "--schedule", "0:1"],
+    &["run", "--schedule", "0:1"],
+    &["run", "--where", "a = 1"],
+    &["step", "--schedule", "0:1", "--schedule", "0:1"],
+    &["step", "--schedule"],
+    &["schedules", "--schedule", "0:1"],
     &["schedules", "--switches", "9"],
     &["schedules", "--switches", "-1"],
     &["schedules", "--switches", "01"],

@@ -30,5 +30,39 @@ impl<K: Hash + Eq> HashSet<K> {
     }
 }
 
+/// A map of values, by the hashes of their keys.
+pub struct HashMap<K, V>(std::collections::HashMap<K, V>);
+
+impl<K: Hash + Eq, V> HashMap<K, V> {
+    pub fn new(_alloc: Global) -> HashMap<K, V> {
+        HashMap(std::collections::HashMap::new())
+    }
+
+    #[inline]
+    pub fn len(&self) -> usize {
+        self.0.len()
+    }
+
+    #[inline]
+    pub fn get(&self, key: &K) -> Option<&V> {
+        self.0.get(key)
+    }
+
+    #[inline]
+    pub fn get_mut(&mut self, key: &K) -> Option<&mut V> {
+        self.0.get_mut(key)
+    }
+
+    #[inline]
+    pub fn contains_key(&self, key: &K) -> bool {
+        self.0.contains_key(key)
+    }
+
+    pub fn insert(&mut self, key: K, value: V) -> Result<Option<V>, AllocError> {
+        self.0.try_reserve(1).map_err(|_| AllocError)?;
+        Ok(self.0.insert(key, value))
+    }
+}
+
 /// A list in which only the prover's copies lie.
 pub struct LinkedList<T>(std::marker::PhantomData<T>);

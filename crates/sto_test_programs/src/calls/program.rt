@@ -2,6 +2,7 @@
 use crate::calls::checking::call_check;
 use crate::calls::running::{call, call_feed};
 use crate::calls::streams::{Called, Failing};
+use crate::calls::words::words_in;
 use std::alloc::{AllocError, Global};
 use std::sync::Wait;
 use std::thread::Threads;
@@ -31,7 +32,7 @@ impl Call<'_> {
         input: &str,
         failing: Failing,
     ) -> Result<Called, AllocError> {
-        let words: Vec<&str> = self.words.split_whitespace().collect(alloc)?;
+        let words = words_in(alloc, self.words)?;
         let words = words.as_slice();
         let called = match self.program {
             Program::Sto => call(threads, alloc, words, input, failing, &NoGate),

@@ -4,7 +4,7 @@ ghost use Rattle.sto_args.specs.Commands.{command_of};
 ghost use Rattle.sto_args.specs.Asked.{feeding_of};
 ghost use Rattle.sto_console.specs.Statuses.{EndsWith, done_status};
 ghost use Rattle.sto_console.specs.Ends.{Ends};
-ghost use Rattle.sto_cli.specs.Programs.{program};
+ghost use Rattle.sto_cli.specs.Programs.{program, answer_status};
 ghost use Rattle.sto_feed_cli.specs.Programs.{feed_program};
 
 use crate::calls::streams::{Called, Failing, Streams, called_with, owned, streams_for};
@@ -25,7 +25,7 @@ pub fn call<R: Threads + Sync, G: Gate>(
     failing: Failing,
     gate: &G,
 ) -> Result<Called, NoMemory>
-    ensures ends { IfOk result (λ called. EndsWith done_status called.status (λ outcome.
+    ensures ends { IfOk result (λ called. EndsWith answer_status called.status (λ outcome.
         (rest held : Option (List ℕ)) × Ends program outcome (command_of (map (λ word. word.now) words.now)) (Some script.now) rest held
         (Some called.out.items))) }
 {

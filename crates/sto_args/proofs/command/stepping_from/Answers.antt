@@ -23,8 +23,9 @@ returns-in_default-tries-clause-stepping c =
     let finds = subst (Finds (app_of c.in-Ok.grammar) words) c.in-Some.is c.in_ok-matches.ensures in
     let found = taken (codes "step") step_takes step_is_built (app_of c.in-Ok.grammar) c.in-Ok.ensures words c.requires c.in-Some.matches finds in
     let json = is_some (value_of (codes "json") found.0) in
+    let schedule = value_of (codes "schedule") found.0 in
     let tries = sym c.in_default-tries.is ∙ c.tries.ensures.tries ∙ ap tries_of (c.get_str.ensures ∙ found.1.1 (codes "tries")) in
-    ap (option_map (λ m. record { tries = m; json = json })) tries ∙ sym (ap (option_and_then stepping_of) found.1.0)
+    ap (option_map (λ m. record { tries = m; json = json; schedule = schedule })) tries ∙ sym (ap (option_and_then stepping_of) found.1.0)
 
 pub returns-clause-stepping : goal.returns-clause-stepping
 returns-clause-stepping c =
@@ -33,4 +34,5 @@ returns-clause-stepping c =
     let found = taken (codes "step") step_takes step_is_built (app_of c.in-Ok.grammar) c.in-Ok.ensures words c.requires c.in-Some.matches finds in
     let tries = sym c.in-Some-tries.is ∙ c.tries.ensures.tries ∙ ap tries_of (c.get_str.ensures ∙ found.1.1 (codes "tries")) in
     let json = c.is_given-json.ensures ∙ ap is_some (c.get_str-2.ensures ∙ found.1.1 (codes "json")) in
-    (λ i. option_map (λ m. record { tries = m; json = json i }) (tries i)) ∙ sym (ap (option_and_then stepping_of) found.1.0)
+    let schedule = c.in_ok-schedule.ensures ∙ (c.get_str-3.ensures ∙ found.1.1 (codes "schedule")) in
+    (λ i. option_map (λ m. record { tries = m; json = json i; schedule = schedule i }) (tries i)) ∙ sym (ap (option_and_then stepping_of) found.1.0)

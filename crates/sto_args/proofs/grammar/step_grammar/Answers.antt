@@ -7,9 +7,10 @@ use Rattle.sto_args.proofs.grammar.step_grammar.Goals as goal
 
 pub returns : goal.returns
 returns c =
-    IfOk-weaker c.with_option-2.result
-    (λ x. app_of x ≡ with_rule (app_of c.in_ok-first.first) (option_rule (codes "json")))
+    IfOk-weaker c.with_option-3.result
+    (λ x. app_of x ≡ with_rule (app_of c.in_ok-second.second) (option_rule (codes "schedule")))
     (λ x. app_of x ≡ app_for (codes "step") step_takes)
-    (λ x h. h ∙ ap (λ a. with_rule a (option_rule (codes "json")))
-    (c.in_ok-first.ensures ∙ ap (λ a. with_rule a (option_rule (codes "tries"))) c.bare.ensures))
-    c.with_option-2.ensures
+    (λ x h. h ∙ ap (λ a. with_rule a (option_rule (codes "schedule")))
+    (c.in_ok-second.ensures ∙ ap (λ a. with_rule a (option_rule (codes "json")))
+    (c.in_ok-first.ensures ∙ ap (λ a. with_rule a (option_rule (codes "tries"))) c.bare.ensures)))
+    c.with_option-3.ensures

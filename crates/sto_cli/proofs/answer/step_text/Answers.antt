@@ -3,14 +3,13 @@ use Rattle.sto_run.specs.Stores.{means}
 use Rattle.sto_run.specs.Forms.{form_for}
 use Rattle.sto_run.proofs.Reports.{one_report}
 use Rattle.sto_lang.specs.Views.{file as view}
-use Rattle.sto_lang.proofs.SoundFiles.{readable_sound}
 use Rattle.sto_cli.proofs.answer.step_text.Goals as goal
 
 pub step_file-requires-clause-sound : goal.step_file-requires-clause-sound
-step_file-requires-clause-sound c = readable_sound c.args.bytes.now (view c.in_ok-file.file) c.in_ok-file.ensures.file
+step_file-requires-clause-sound c = c.in_ok-file.ensures.sound
 
 pub report-requires-clause-sound : goal.report-requires-clause-sound
-report-requires-clause-sound c = readable_sound c.args.bytes.now (view c.in_ok-file.file) c.in_ok-file.ensures.file
+report-requires-clause-sound c = c.in_ok-file.ensures.sound
 
 pub report-requires-clause-lawful : goal.report-requires-clause-lawful
 report-requires-clause-lawful c = (c.args.tries, c.in_ok-journal.ensures.lawful)

@@ -1,11 +1,10 @@
 use Rattle.sto_lang.specs.Views.{file as view}
-use Rattle.sto_lang.proofs.SoundFiles.{readable_sound}
 use Rattle.sto_run.specs.Forms.{form_for}
 use Rattle.sto_cli.proofs.Printed.{printed}
 use Rattle.sto_cli.proofs.scheduled.schedules_text.Goals as goal
 
 pub outcomes_of-requires-clause-sound : goal.outcomes_of-requires-clause-sound
-outcomes_of-requires-clause-sound g c = readable_sound c.args.bytes.now (view c.in_ok-file.file) c.in_ok-file.ensures.file.0
+outcomes_of-requires-clause-sound g c = c.in_ok-file.ensures.sound
 
 pub returns-clause-text : goal.returns-clause-text
 returns-clause-text g c =

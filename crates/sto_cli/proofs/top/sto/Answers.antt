@@ -1,10 +1,11 @@
 use Rattle.sto_args.specs.Commands.{command_in}
-use Rattle.sto_console.specs.Statuses.{done_status}
 use Rattle.sto_console.proofs.Endings.{ended, read_so, write_so}
 use Rattle.sto_console.proofs.Causes.{causes}
-use Rattle.sto_cli.specs.Programs.{program}
-use Rattle.sto_console.proofs.Faultless.{few_statuses}
-use Rattle.sto_cli.proofs.Exclusive.{exclusive}
+use Rattle.std.proofs.Common.{◌∙◌, sym}
+use Rattle.sto_console.specs.Outcomes.{IsDone}
+use Rattle.sto_cli.specs.declared.told.Answer.TheVariants.{Done, Found}
+use Rattle.sto_cli.specs.Programs.{program, answer_status}
+use Rattle.sto_cli.proofs.Exclusive.{exclusive, few_statuses, by_done, by_found}
 use Rattle.sto_cli.proofs.top.sto.Goals as goal
 
 pub returns : goal.returns
@@ -23,9 +24,10 @@ returns g c =
     let ends = ended program command left rest held now c.perform-outcome.result c.say.result same c.perform-outcome.ensures.ends in
     let reads = read_so read read_now c.perform-outcome.result c.say.result same c.perform-outcome.ensures.source_faults in
     let writes = write_so wrote wrote_now c.perform-outcome.result c.say.result same c.perform-outcome.ensures.out_faults in
-    let so = causes program exclusive done_status few_statuses c.say.result status c.status.ensures command left rest held now read read_now wrote wrote_now ends reads writes in
+    let so = causes program exclusive answer_status few_statuses c.say.result status c.status.ensures command left rest held now read read_now wrote wrote_now ends reads writes in
     record {
-      headline = λ zero. (so.done (tt, zero)).2;
+      headline = λ zero. let told = so.done (Done, zero) in by_done (λ answer. IsDone program answer command left rest held now) told.0 (sym told.1 ∙ zero) told.2;
+      found = λ one. let told = so.done (Found, one) in by_found (λ answer. IsDone program answer command left rest held now) told.0 (sym told.1 ∙ one) told.2;
       ends = (c.say.result, c.status.ensures, (ends, c.say.ensures.says));
       causes = so;
     }

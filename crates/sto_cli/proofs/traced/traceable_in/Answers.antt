@@ -1,10 +1,9 @@
 use Rattle.std.proofs.Common.{arith}
 use Rattle.sto_lang.specs.Views.{file as view}
-use Rattle.sto_lang.proofs.SoundFiles.{readable_sound}
 use Rattle.sto_cli.proofs.traced.traceable_in.Goals as goal
 
 pub transactions_of-count-requires : goal.transactions_of-count-requires
-transactions_of-count-requires c = readable_sound c.args.bytes.now (view c.in_ok-file.file) c.in_ok-file.ensures.file
+transactions_of-count-requires c = c.in_ok-file.ensures.sound
 
 pub returns-clause-file : goal.returns-clause-file
 returns-clause-file c =

@@ -5,6 +5,7 @@ use Rattle.sto_console.specs.Ends.{Made, Unmade, IsFileRefusal}
 use Rattle.sto_console.proofs.Scripts.{small_file}
 use Rattle.sto_cli.specs.Outputs.{IsOutput}
 use Rattle.sto_cli.specs.Programs.{program}
+use Rattle.sto_cli.specs.declared.told.Answer.TheVariants.{Done}
 use Rattle.sto_cli.proofs.Reading.{unmade}
 use Rattle.sto_cli.proofs.work.run_source.Goals as goal
 
@@ -12,14 +13,14 @@ pub returns-clause-made : goal.returns-clause-made
 returns-clause-made g c =
     IfOk-weaker c.run_text.result
     (λ text. IsOutput (commands.Run c.args.threads c.args.tries c.args.json) c.as_slice.result.now text.items)
-    (λ text. Made program (commands.Run c.args.threads c.args.tries c.args.json) tt (g.S.Source.left c.args.source.now) (g.S.Source.left c.script_left.new.source) text.items)
+    (λ text. Made program (commands.Run c.args.threads c.args.tries c.args.json) Done (g.S.Source.left c.args.source.now) (g.S.Source.left c.script_left.new.source) text.items)
     (λ text h.
     let output : IsOutput (commands.Run c.args.threads c.args.tries c.args.json) c.in_ok-bytes.bytes.items text.items =
     subst (λ (bytes : List ℕ). IsOutput (commands.Run c.args.threads c.args.tries c.args.json) bytes text.items) c.as_slice.ensures.items h in
     record {
       bytes = c.in_ok-bytes.bytes.items;
       reads = (c.in_ok-bytes.ensures.taken, c.in_ok-bytes.ensures.end (small_file c.in_ok-bytes.bytes.items output.0 output.1));
-      output = output;
+      output = (refl, output);
     })
     c.run_text.ensures.text
 

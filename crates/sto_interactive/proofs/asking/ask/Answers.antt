@@ -1,10 +1,12 @@
 -- It goes on from where it was, and asks the call.
-use Rattle.std.proofs.Common.{[], ◌∷◌, ◌++◌, ap, sym, ◌∙◌, subst}
+use Rattle.std.proofs.Common.{◌≡◌, None, [], ◌∷◌, ◌++◌, ap, sym, ◌∙◌, subst}
 use Rattle.sto_type.specs.Traits.{of_type}
 use Rattle.sto_core.specs.declared.view.View.{View}
 use Rattle.sto_table.specs.Rests.{IsOf}
 use Rattle.sto_interactive.specs.declared.live.StepError.TheVariants.{Aborted, Untaken, NoMemory}
 use Rattle.sto_table.specs.declared.shared.Rest.{Rest}
+use Rattle.sto_interactive.specs.declared.session.SessionRoom.{SessionRoom}
+use Rattle.sto_interactive.specs.Sessions.{live_of}
 use Rattle.sto_interactive.proofs.Passing.{Pass, same_words, goes_on, more_left, still_left, all_left, fails, waits_now, waits_still, answered, untaken, aborted, stopped}
 use Rattle.sto_interactive.proofs.asking.ask.Goals as goal
 
@@ -157,7 +159,8 @@ returns-in-Err-Aborted-clause-asked g c calls rs begun w =
     let of = same_words s c.pass-pass.result.shared.now.table.shared.key.passes c.ask.new.cells.shared.now.table.shared.key.passes b d c.in-Err-Aborted.ensures.same (subst (λ (e : Pass). IsOf s e) (sym c.pass-pass.ensures.seat) w.of) in
     let same = ap (λ (r : Rest g.row.T.Denot g.T.Naming). r.seat) c.new.ensures.rest ∙ c.rest-in-Err-Aborted.ensures in
     let h = (stopped t c.pass-pass.result.shared.now.table.shared.key.passes ty calls rs c.args.call c.go_on-live.result c.ask.new.self begun b.me.0.view c.ask.new.cells.seat.me.0.view c.in-Err-Aborted.field-0 (Aborted c.in-Err-Aborted.field-0-0) c.in-Err-Aborted.field-0-is (c.in-Err-Aborted.ensures.asked ty calls rs begun on)) in
-    aborted t ty s (calls ++ c.args.call ∷ []) begun c.new.result d (record { body = c.ask.new.self.attempt.log.body; replies = c.ask.new.self.attempt.log.table.replies; verdict = c.in-Err-Aborted.field-0-0 }) c.pass-pass.result.shared.now.table.shared.key.passes c.pass-pass.ensures.passes c.new.ensures.free same of h.0 h.1
+    let free : live_of c.new.result ≡ None = rw c.new.ensures.room (c.give_back.ensures ∙ ap (λ (r : SessionRoom). r.live) c.deref_mut.ensures.value ∙ c.requires.free) in
+    aborted t ty s (calls ++ c.args.call ∷ []) begun c.new.result d (record { body = c.ask.new.self.attempt.log.body; replies = c.ask.new.self.attempt.log.table.replies; verdict = c.in-Err-Aborted.field-0-0 }) c.pass-pass.result.shared.now.table.shared.key.passes c.pass-pass.ensures.passes free same of h.0 h.1
 
 pub returns-in-Err-NoMemory-clause-asked : goal.returns-in-Err-NoMemory-clause-asked
 returns-in-Err-NoMemory-clause-asked g c calls rs begun w =
@@ -170,4 +173,5 @@ returns-in-Err-NoMemory-clause-asked g c calls rs begun w =
     let on = goes_on t ty s calls rs c.args.live c.go_on-live.result begun a b c.args.left w c.go_on-live.ensures.live c.pass-pass.ensures.seat in
     let of = same_words s c.pass-pass.result.shared.now.table.shared.key.passes c.ask.new.cells.shared.now.table.shared.key.passes b d c.in-Err-NoMemory.ensures.same (subst (λ (e : Pass). IsOf s e) (sym c.pass-pass.ensures.seat) w.of) in
     let same = ap (λ (r : Rest g.row.T.Denot g.T.Naming). r.seat) c.new-in-Err-NoMemory.ensures.rest ∙ c.rest-in-Err-NoMemory.ensures in
-    fails t ty s begun c.new-in-Err-NoMemory.result d c.new-in-Err-NoMemory.ensures.free same of (stopped t c.pass-pass.result.shared.now.table.shared.key.passes ty calls rs c.args.call c.go_on-live.result c.ask.new.self begun b.me.0.view c.ask.new.cells.seat.me.0.view c.in-Err-NoMemory.field-0 NoMemory c.in-Err-NoMemory.field-0-is (c.in-Err-NoMemory.ensures.asked ty calls rs begun on))
+    let free : live_of c.new-in-Err-NoMemory.result ≡ None = rw c.new-in-Err-NoMemory.ensures.room (c.give_back-in-Err-NoMemory.ensures ∙ ap (λ (r : SessionRoom). r.live) c.deref_mut-in-Err-NoMemory.ensures.value ∙ c.requires.free) in
+    fails t ty s begun c.new-in-Err-NoMemory.result d free same of (stopped t c.pass-pass.result.shared.now.table.shared.key.passes ty calls rs c.args.call c.go_on-live.result c.ask.new.self begun b.me.0.view c.ask.new.cells.seat.me.0.view c.in-Err-NoMemory.field-0 NoMemory c.in-Err-NoMemory.field-0-is (c.in-Err-NoMemory.ensures.asked ty calls rs begun on))

@@ -1,11 +1,13 @@
 -- It goes on from where it was, and is committed.
-use Rattle.std.proofs.Common.{ap, sym, ◌∙◌, subst}
+use Rattle.std.proofs.Common.{◌≡◌, None, ap, sym, ◌∙◌, subst}
 use Rattle.sto_type.specs.Traits.{of_type}
 use Rattle.sto_table.specs.Rests.{IsOf}
 use Rattle.sto_table.specs.declared.shared.Rest.{Rest}
 use Rattle.sto_interactive.specs.declared.ending.CommitError.{CommitError}
 use Rattle.sto_interactive.specs.Steps.{HasCommittedAfter}
 use Rattle.std.specs.Prelude.{ℕ, Result}
+use Rattle.sto_interactive.specs.declared.session.SessionRoom.{SessionRoom}
+use Rattle.sto_interactive.specs.Sessions.{live_of}
 use Rattle.sto_interactive.proofs.Passing.{Pass, same_words, goes_on, more_left, still_left, all_left, fails, commits}
 use Rattle.sto_interactive.proofs.ending.commit.Goals as goal
 
@@ -58,8 +60,9 @@ returns-in-Ok-clause-committed g c calls rs begun w =
     let on = goes_on t ty s calls rs c.args.live c.go_on-live.result begun c.args.rest.seat b c.args.left w c.go_on-live.ensures.live c.pass-pass.ensures.seat in
     let of = same_words s c.pass-pass.result.shared.now.table.shared.key.passes c.commit.new.cells.shared.now.table.shared.key.passes b d c.in-Ok.ensures.same (subst (λ (e : Pass). IsOf s e) (sym c.pass-pass.ensures.seat) w.of) in
     let same = ap (λ (r : Rest g.row.T.Denot g.T.Naming). r.seat) c.new.ensures.rest ∙ c.rest.ensures in
+    let free : live_of y ≡ None = rw c.new.ensures.room (ap (λ (r : SessionRoom). r.live) c.deref_mut-held.ensures.value ∙ c.requires.free) in
     subst (λ (r : Result ℕ CommitError). HasCommittedAfter t ty s calls rs begun r y) (sym c.place_of-place.ensures)
-    (commits t ty s calls rs begun y d c.in-Ok.ended c.pass-pass.result.shared.now.table.shared.key.passes c.pass-pass.ensures.passes c.new.ensures.free same of (c.in-Ok.ensures.committed ty calls rs begun on))
+    (commits t ty s calls rs begun y d c.in-Ok.ended c.pass-pass.result.shared.now.table.shared.key.passes c.pass-pass.ensures.passes free same of (c.in-Ok.ensures.committed ty calls rs begun on))
 
 pub returns-in-Err-clause-committed : goal.returns-in-Err-clause-committed
 returns-in-Err-clause-committed g c calls rs begun w =
@@ -71,4 +74,5 @@ returns-in-Err-clause-committed g c calls rs begun w =
     let on = goes_on t ty s calls rs c.args.live c.go_on-live.result begun c.args.rest.seat b c.args.left w c.go_on-live.ensures.live c.pass-pass.ensures.seat in
     let of = same_words s c.pass-pass.result.shared.now.table.shared.key.passes c.commit.new.cells.shared.now.table.shared.key.passes b d c.in-Err.ensures.same (subst (λ (e : Pass). IsOf s e) (sym c.pass-pass.ensures.seat) w.of) in
     let same = ap (λ (r : Rest g.row.T.Denot g.T.Naming). r.seat) c.new-in-Err.ensures.rest ∙ c.rest-in-Err.ensures in
-    fails t ty s begun c.new-in-Err.result d c.new-in-Err.ensures.free same of (c.in-Err.ensures.err ty calls rs begun on)
+    let free : live_of c.new-in-Err.result ≡ None = rw c.new-in-Err.ensures.room (ap (λ (r : SessionRoom). r.live) c.deref_mut-held.ensures.value ∙ c.requires.free) in
+    fails t ty s begun c.new-in-Err.result d free same of (c.in-Err.ensures.err ty calls rs begun on)

@@ -1,7 +1,8 @@
 -- It is live, and is paused at once.
-use Rattle.std.proofs.Common.{[], refl, sym, subst}
+use Rattle.std.proofs.Common.{[], ap, sym, ◌∙◌, subst}
 use Rattle.sto_type.specs.Traits.{of_type}
 use Rattle.sto_table.specs.Rests.{IsOf}
+use Rattle.sto_table.specs.declared.shared.Rest.{Rest}
 use Rattle.sto_interactive.specs.Lives.{IsLive}
 use Rattle.sto_interactive.proofs.Passing.{Pass, same_words, asking_on}
 use Rattle.sto_interactive.proofs.starting.start.Goals as goal
@@ -16,4 +17,7 @@ returns-in-Ok g c =
     let begun = c.args.rest.seat.me.0.view in
     let live = subst (λ (e : Pass). IsLive t ty [] [] c.in-Ok.live e.me.0.view d.me.0.view) c.pass-pass.ensures.seat c.in-Ok.ensures.live in
     let of = same_words s c.pass-pass.result.shared.now.table.shared.key.passes c.begin.new.cells.shared.now.table.shared.key.passes b d c.in-Ok.ensures.same (subst (λ (e : Pass). IsOf s e) (sym c.pass-pass.ensures.seat) c.requires.of) in
-    (asking_on t ty s [] [] begun _ c.pause.result c.in-Ok.live d c.args.left refl c.rest.ensures refl of c.requires.left live (c.pause.ensures.paused ty [] [] begun d.me.0.view live), refl)
+    let same = ap (λ (r : Rest g.row.T.Denot g.T.Naming). r.seat) c.waiting.ensures.rest ∙ c.rest.ensures in (
+      asking_on t ty s [] [] begun c.waiting.result c.pause.result c.in-Ok.live d c.args.left c.waiting.ensures.live same c.waiting.ensures.left of c.requires.left live (c.pause.ensures.paused ty [] [] begun d.me.0.view live),
+      c.waiting.ensures.left,
+    )

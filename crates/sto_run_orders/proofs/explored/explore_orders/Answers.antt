@@ -3,7 +3,7 @@ use Rattle.sto_lang.specs.Views.{file as view}
 use Rattle.sto_run.specs.Meanings.{updating_by}
 use Rattle.sto_run.specs.Stores.{means}
 use Rattle.sto_run.specs.Forms.{form_for}
-use Rattle.sto_run_orders.proofs.Listing.{all_among, all_by, all_apart}
+use Rattle.sto_run_orders.proofs.Listing.{all_among, all_by, all_states, all_apart}
 use Rattle.sto_run_orders.proofs.explored.explore_orders.Goals as goal
 
 pub returns-clause-reports : goal.returns-clause-reports
@@ -18,6 +18,9 @@ returns-clause-reports c = record {
 
 pub returns-clause-each : goal.returns-clause-each
 returns-clause-each c = all_by c.args.by (form_for c.args.json) (view c.args.file.now) 64 c.sort.new.reports.items (returns-clause-reports c)
+
+pub returns-clause-states : goal.returns-clause-states
+returns-clause-states c = all_states c.args.by (form_for c.args.json) (view c.args.file.now) 64 c.sort.new.reports.items (returns-clause-reports c)
 
 pub returns-clause-distinct : goal.returns-clause-distinct
 returns-clause-distinct c = all_apart c.args.by (form_for c.args.json) (view c.args.file.now) 64 c.sort.new.reports.items (returns-clause-reports c)

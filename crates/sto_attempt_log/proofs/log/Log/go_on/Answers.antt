@@ -25,14 +25,14 @@ take_in-requires-clause-says g c =
       call = c.in-Ask.call;
       taken = was.taken c.in-Ask.call c.in-Ask.ensures.may;
       asks = rw c.loop-call.invariant.script asks;
-      plan = rw c.in-Done.is at c.in_ok-part-in-Ask.ensures.plan;
+      plan = rw c.in-None.is at c.in_ok-part-in-Ask.ensures.plan;
     }
 
 pub loop-call-preserved : goal.loop-call-preserved
 loop-call-preserved g c =
     let i = c.loop-call.invariant in
     let e = c.take_in.ensures in
-    let k = c.in_ok-take_in-in-Done.ensures in
+    let k = c.in_ok-take_in-in-None.ensures in
     record {
       log = rw (e.ty, e.base, ← i.script) k.log;
       some = rw (e.ty, e.base) i.some;
@@ -44,9 +44,7 @@ loop-call-preserved g c =
       may = λ call h. i.may call (e.may call h);
       ty = e.ty ∙ i.ty;
       base = e.base ∙ i.base;
-      rest =
-          let now = c.take_in.new.self in
-          ap (λ (x : Log g.row.T.Denot g.row.B.Denot). with_table x (record x.table { pool = c.keep.new.self })) (e.rest ∙ ap (λ (x : Log g.row.T.Denot g.row.B.Denot). run_to x now) i.rest);
+      rest = e.rest ∙ ap (λ (x : Log g.row.T.Denot g.row.B.Denot). run_to x c.take_in.new.self) i.rest;
     }
 
 pub loop-call-init : goal.loop-call-init
@@ -64,23 +62,25 @@ loop-call-init g c = record {
   rest = refl;
 }
 
-pub returns-in-Need : goal.returns-in-Need
-returns-in-Need g c =
+pub returns-in-Some : goal.returns-in-Some
+returns-in-Some g c =
     let m = g.T.TxType.meaning c.args.self.now.ty.now in
     let f = g.B.Body.script c.args.self.now.body in
     let i = c.loop-call.invariant in
     let l = c.loop-call.self in
     let rs = map plain_reply l.table.replies.items in
     let asks = ap f (sym (append-nil rs)) ∙ sym (c.in-Ask.ensures.next ∙ i.log.then []) in
-    let unknown = c.in_ok-part-in-Ask.ensures.need c.in-Need.part c.in-Need.is in
+    let unknown = rw c.in-Some.is at c.in_ok-part-in-Ask.ensures.need in
+    let unread = unknown.0 in
+    let unput = unknown.1 in
     record {
       log = search rules;
       reached = record {
         unread = search rules;
         unput = search rules;
         by_next =
-            rw (← i.ty) (need_touched (g.T.TxType.meaning l.ty.now) f (words_in l.table.base.items) l.table.set.items l.table.set.updates rs c.in-Ask.call (known c.ask.new.cache) c.in-Need.part
-            i.log.log c.in_ok-part-in-Ask.ensures.cache i.some (i.log.taken c.in-Ask.call c.in-Ask.ensures.may) asks (rw c.in-Need.is at c.in_ok-part-in-Ask.ensures.plan));
+            rw (← i.ty) (need_touched (g.T.TxType.meaning l.ty.now) f (words_in l.table.base.items) l.table.set.items l.table.set.updates rs c.in-Ask.call (known c.ask.new.cache) c.in-Some.part
+            i.log.log c.in_ok-part-in-Ask.ensures.cache i.some (i.log.taken c.in-Ask.call c.in-Ask.ensures.may) asks (rw c.in-Some.is at c.in_ok-part-in-Ask.ensures.plan));
       };
       grown = search rules;
       runs = search rules;
@@ -89,7 +89,7 @@ returns-in-Need g c =
             ran,
             ran_halts (g.T.TxType.meaning l.ty.now) (g.met.T.TxType.lawful l.ty.now) f r l.table.base.items l.table.set rs at.0 ran
                 (pending_of (g.T.TxType.meaning l.ty.now) f (words_in l.table.base.items) l.table.set.items l.table.set.updates rs i.log.log i.some) (known c.ask.new.cache) c.in_ok-part-in-Ask.ensures.cache c.in-Ask.call asks
-                c.in-Need.part (rw c.in-Need.is at c.in_ok-part-in-Ask.ensures.plan) unknown.0 unknown.1,
+                c.in-Some.part (rw c.in-Some.is at c.in_ok-part-in-Ask.ensures.plan) unread unput,
           ));
       left = search rules;
       asks = search rules;
@@ -98,7 +98,7 @@ returns-in-Need g c =
       may = search rules;
       ty = search rules;
       base = search rules;
-      rest = ap (λ (x : Log g.row.T.Denot g.row.B.Denot). with_table x (record x.table { scratch = c.ask.new.scratch; cache = c.ask.new.cache; pool = c.ask.new.pool })) i.rest;
+      rest = ap (λ (x : Log g.row.T.Denot g.row.B.Denot). with_table x (record x.table { scratch = c.ask.new.scratch; cache = c.ask.new.cache; said = c.ask.new.said })) i.rest;
     }
 
 pub returns-in-Commit : goal.returns-in-Commit
@@ -161,11 +161,11 @@ returns-in_err-part-in-Ask g c =
       may = search rules;
       ty = search rules;
       base = search rules;
-      rest = ap (λ (x : Log g.row.T.Denot g.row.B.Denot). with_table x (record x.table { scratch = c.ask.new.scratch; cache = c.ask.new.cache; pool = c.ask.new.pool })) i.rest;
+      rest = ap (λ (x : Log g.row.T.Denot g.row.B.Denot). with_table x (record x.table { scratch = c.ask.new.scratch; cache = c.ask.new.cache; said = c.ask.new.said })) i.rest;
     }
 
-pub returns-in_err-take_in-in-Done : goal.returns-in_err-take_in-in-Done
-returns-in_err-take_in-in-Done g c =
+pub returns-in_err-take_in-in-None : goal.returns-in_err-take_in-in-None
+returns-in_err-take_in-in-None g c =
     let i = c.loop-call.invariant in
     record {
       log = search rules;

@@ -2,7 +2,7 @@ use Rattle.std.proofs.Common.{◌≡◌, Option, IfSome, refl, subst}
 use Rattle.sto_run.specs.Forms.{form_for}
 use Rattle.sto_run_orders.specs.declared.runs.LedRun.{LedRun}
 use Rattle.sto_run_orders.specs.Ready.{objects_of, file_of, tries_of, LeadsThere}
-use Rattle.sto_run_orders.proofs.Reporting.{report_of_journal, step_report, told_same}
+use Rattle.sto_run_orders.proofs.Reporting.{report_of_journal, step_report, told_same, state_is}
 use Rattle.sto_run_orders.proofs.runs.OrderRuns.report_of.Goals as goal
 
 pub report-requires-clause-lawful : goal.report-requires-clause-lawful
@@ -21,5 +21,6 @@ returns c =
     record {
       report = step_report (form_for r.json) (objects_of r) (file_of r) (tries_of r) c.in-Some.led.schedule.items journal text c.requires.ready.kinds led.run.run led.run.alone told;
       same = told_same r.by (form_for r.json) (file_of r) (tries_of r) journal text c.args.outcome told led.same;
+      state = state_is (form_for r.json) (file_of r) (tries_of r) journal text told led.run.lawful.final;
       orders = refl;
     }

@@ -7,7 +7,7 @@ use Rattle.sto_run.specs.Meanings.{updating_by}
 use Rattle.sto_run.specs.Stores.{means}
 use Rattle.sto_run.specs.Forms.{form_for}
 use Rattle.sto_run_orders.specs.Ready.{file_of, tries_of}
-use Rattle.sto_run_orders.proofs.Reporting.{order_lawful, report_of_journal, told_same}
+use Rattle.sto_run_orders.proofs.Reporting.{order_lawful, report_of_journal, told_same, state_is}
 use Rattle.sto_run_orders.proofs.runs.OrderRuns.report_of_order.Goals as goal
 
 pub report-requires-clause-lawful : goal.report-requires-clause-lawful
@@ -25,5 +25,6 @@ returns c =
     record {
       report = (lawful, c.in_ok-text.ensures.aborts ∙ ap (map (abort (file_of r).declarations)) (ap (λ (l : Listed AbortLine). l.items) c.new.ensures));
       same = told_same r.by (form_for r.json) (file_of r) (tries_of r) journal c.in_ok-text.text.items c.args.outcome told refl;
+      state = state_is (form_for r.json) (file_of r) (tries_of r) journal c.in_ok-text.text.items told c.requires.outcome.final;
       orders = refl;
     }
