@@ -7,8 +7,9 @@ ghost use Rattle.sto_item.specs.declared.item.Item.TheVariants.{Seen};
 ghost use Rattle.sto_model.specs.PlainReplies.{Absent as ToldAbsent, Value as ToldValue, Done as ToldDone};
 ghost use Rattle.sto_model.specs.declared.shape.Shape.TheVariants.{Array};
 ghost use Rattle.sto_type.specs.Known.{known};
-ghost use Rattle.sto_type.specs.Plans.{IsSaid};
-ghost use Rattle.sto_array.specs.Arrayed.{array_meaning, array_rows, place_of, IsArray, IsArrayOf};
+ghost use Rattle.sto_type.specs.Plans.{IsSaid, planned};
+ghost use Rattle.sto_type.specs.Saying.{IsSaidFrom};
+ghost use Rattle.sto_array.specs.Arrayed.{array_meaning, array_rows, place_of, ArrayTakes, IsArray, IsArrayOf};
 ghost use Rattle.sto_array.specs.ArrayedLaw.{array_lawful};
 
 use std::alloc::Global;
@@ -16,7 +17,7 @@ use sto_counter::add_answer;
 use sto_item::Item;
 use sto_model::{Call, Operation, Reply, Rows, Shape, State};
 use sto_part::{Change, Contents, Naming, NoMemory, PartWords};
-use sto_type::{Answer, AnswerPool, Home, KnownParts, TxType, one_item, one_update};
+use sto_type::{Answer, AnswerPool, Home, KnownParts, Said, TxType, one_item, one_update};
 
 /// An array of so many numbers. Its contents are a part of one word for each.
 #[derive(Drop)]
@@ -97,21 +98,48 @@ impl TxType for TArray {
         call: &Call,
         cache: &KnownParts<'_>,
     ) -> Result<Answer, NoMemory> {
-        match place_in(self.len, call.a) {
-            None => outside(pool),
-            Some(place) => match call.operation {
-                Operation::Get => match cache.first_word(place) {
-                    None => Ok(Answer::Need(place)),
-                    Some(value) => get_answer(pool, place, value),
-                },
-                Operation::Set => set_answer(pool, place, call.b),
-                Operation::Add => match cache.first_word(place) {
-                    None => Ok(Answer::Need(place)),
-                    Some(value) => add_answer(pool, place, call.b, value),
-                },
-                _ => outside(pool),
+        answer(self, pool, call, 0, cache)
+    }
+
+    fn say(
+        &self,
+        alloc: Global,
+        call: &Call,
+        first: u32,
+        cache: &KnownParts<'_>,
+        said: &mut Said,
+    ) -> Result<Option<u32>, NoMemory> {
+        let answer = answer(self, &mut said.pool, call, first, cache)?;
+        Ok(said.pour(answer))
+    }
+}
+
+// The answer of an array whose parts are numbered from `first` on, in what is known and in what is answered.
+fn answer(
+    array: &TArray,
+    pool: &mut AnswerPool,
+    call: &Call,
+    first: u32,
+    cache: &KnownParts<'_>,
+) -> Result<Answer, NoMemory>
+    requires takes { ArrayTakes call.now }
+    requires few { first + array.now.len < 2 ^ 32 }
+    ensures { IfOk result (λ a. IsSaidFrom (array_meaning array.now.len array.now.first) first call.now (known cache.now) (planned a)) }
+{
+    match place_in(array.len, call.a) {
+        None => outside(pool),
+        Some(place) => match call.operation {
+            Operation::Get => match cache.first_word(first + place) {
+                None => Ok(Answer::Need(first + place)),
+                Some(value) => get_answer(pool, first + place, value),
             },
-        }
+            Operation::Set => set_answer(pool, first + place, call.b),
+            Operation::Add => match cache.first_word(first + place) {
+                None => Ok(Answer::Need(first + place)),
+                Some(value) => add_answer(pool, first + place, call.b, value),
+            },
+            _ => outside(pool),
+        },
     }
 }
 

@@ -9,7 +9,7 @@ use Rattle.sto_interactive.specs.declared.asking.AskError.{AskError}
 use Rattle.sto_interactive.specs.declared.asking.AskError.TheVariants as ask_error
 use Rattle.sto_interactive.specs.declared.pause.RestingTransaction.{RestingTransaction}
 use Rattle.sto_interactive.specs.declared.session.Session.{Session}
-use Rattle.sto_interactive.specs.Sessions.{Stands}
+use Rattle.sto_interactive.specs.Sessions.{Stands, live_of}
 use Rattle.sto_interactive.specs.Steps.{HasAsked, HasAskedAfter}
 use Rattle.sto_shared_store.specs.Owned.{Leads, IsAt, view_at}
 use Rattle.sto_shared_store.proofs.Since.{is_session}
@@ -48,7 +48,7 @@ Ends _ = ⊥
 -- the transaction of the session x, which was in one, is asked a call that its objects take
 module _ (h : WorkerHandle) (call : Call) (takes : Takes h call) (error : AskError) (x y : Session Objects naming_ghosts)
     (asked : HasAsked objects (arc_value h.worker.store).ty (arc_value h.worker.store).shared x call (Err error) y) where
-  by_live : (o : Option RestingTransaction) → x.live ≡ o → Stands objects (arc_value h.worker.store).ty (arc_value h.worker.store).shared o x.rest.seat x.left → x.live ≢ None → Ends error
+  by_live : (o : Option RestingTransaction) → live_of x ≡ o → Stands objects (arc_value h.worker.store).ty (arc_value h.worker.store).shared o x.rest.seat x.left → live_of x ≢ None → Ends error
   by_live None e stands within = absurd (within e)
   by_live (Some p) e stands within =
       by error (asked.asking stands.0 stands.1 stands.2 (record { paused = p; live = e; waits = stands.3 }))
@@ -61,12 +61,12 @@ module _ (h : WorkerHandle) (call : Call) (takes : Takes h call) (error : AskErr
 
 module _ (h : WorkerHandle) (call : Call) (takes : Takes h call) (error : AskError) where
   by_session : (a b : Option (Session Objects naming_ghosts)) → IsAt objects (arc_value h.worker.store) (view_at h.worker.slot) a
-      → option_and_then (λ x. option_map (λ p. p.attempt.table.replies) x.live) a ≢ None
+      → option_and_then (λ x. option_map (λ p. p.attempt.table.replies) (live_of x)) a ≢ None
       → Leads (λ x y. HasAsked objects (arc_value h.worker.store).ty (arc_value h.worker.store).shared x call (Err error) y) a b → Ends error
   by_session None b at within l = absurd at
   by_session (Some x) None at within l = absurd l
   by_session (Some x) (Some y) at within l =
-      by_live h call takes error x y l x.live refl (is_session objects (arc_value h.worker.store) (view_at h.worker.slot) x at)
+      by_live h call takes error x y l (live_of x) refl (is_session objects (arc_value h.worker.store) (view_at h.worker.slot) x at)
       (λ none. within (ap (λ (o : Option RestingTransaction). option_map (λ p. p.attempt.table.replies) o) none))
 
 -- what becomes of it where it is not answered

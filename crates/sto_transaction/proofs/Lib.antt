@@ -1,3 +1,4 @@
+pub mod Beginning
 pub mod Resting
 pub mod Telling
 pub mod Gone

@@ -3,6 +3,7 @@ use Rattle.sto_model.specs.PlainReplies.{plain_reply}
 use Rattle.sto_attempt_log.proofs.Claimed.{claims_fit, part_of_claims}
 use Rattle.sto_attempt_log.proofs.Sealed.{gathered_sealed}
 use Rattle.sto_attempt.specs.Attempts.{reader_of}
+use Rattle.sto_attempt.proofs.Commits.{stocked_before}
 use Rattle.sto_attempt.proofs.attempt.Attempt.seal.Goals as goal
 
 pub stock-requires-clause-some : goal.stock-requires-clause-some
@@ -22,7 +23,7 @@ returns-in-Ok g c =
     let kept = c.in-Ok.ensures.kept in
     let it = c.in-Ok.ensures.stocked in
     rw kept (record {
-      before = search rules;
+      before = stocked_before _ g.B.Body a _ c.requires.log it;
       space = search rules;
       copy = search rules;
       log = refl;

@@ -12,6 +12,6 @@ returns-in-Ok-lend_slot-clause-out g c =
       hired = record { store = c.in-Ok.store; worker = c.in-Some.worker };
       idle = c.in-Some.ensures.0 ∙ ap (λ (l : Listed (CountedRest g.row.T.Denot g.T.Naming)). l.items ++ c.in-Some.worker ∷ []) (sym c.lend_slot.ensures.kept.1);
       lent = record { slot = lent.slot; to = lent.to; slots = lent.slots };
-      slot = ap arc_value c.new.ensures.store.1 ∙ c.in-Ok-lend_slot.ensures.slot;
-      session = c.new.ensures.session;
+      slot = ap arc_value c.new-in-Ok-lend_slot.ensures.store.1 ∙ c.in-Ok-lend_slot.ensures.slot;
+      session = c.new-in-Ok-lend_slot.ensures.session;
     }
