@@ -128,18 +128,21 @@ fn answer(
 {
     match place_in(array.len, call.a) {
         None => outside(pool),
-        Some(place) => match call.operation {
-            Operation::Get => match cache.first_word(first + place) {
-                None => Ok(Answer::Need(first + place)),
-                Some(value) => get_answer(pool, first + place, value),
-            },
-            Operation::Set => set_answer(pool, first + place, call.b),
-            Operation::Add => match cache.first_word(first + place) {
-                None => Ok(Answer::Need(first + place)),
-                Some(value) => add_answer(pool, first + place, call.b, value),
-            },
-            _ => outside(pool),
-        },
+        Some(place) => {
+            let part = first + place;
+            match call.operation {
+                Operation::Get => match cache.first_word(part) {
+                    None => Ok(Answer::Need(part)),
+                    Some(value) => get_answer(pool, part, value),
+                },
+                Operation::Set => set_answer(pool, part, call.b),
+                Operation::Add => match cache.first_word(part) {
+                    None => Ok(Answer::Need(part)),
+                    Some(value) => add_answer(pool, part, call.b, value),
+                },
+                _ => outside(pool),
+            }
+        }
     }
 }
 

@@ -3,7 +3,7 @@ use Rattle.std.proofs.Common.{◌≡◌, ◌+◌, ◌+ℤ◌, ℕ, ℤ, pos, Boo
 use Rattle.sto_part.specs.declared.change.Change.TheVariants.{Add}
 use Rattle.sto_part.specs.declared.pred.Test.TheVariants.{Lt, Le, Gt, Ge}
 use Rattle.sto_item.specs.declared.item.Item.{Item}
-use Rattle.sto_item.specs.declared.item.Item.TheVariants.{Seen, Holds}
+use Rattle.sto_item.specs.declared.item.Item.TheVariants.{Holds}
 use Rattle.sto_item.specs.Pending.{Entry, renumbered}
 use Rattle.sto_model.specs.declared.call.Call.{Call}
 use Rattle.sto_model.specs.Objects.{greatest}
@@ -11,7 +11,7 @@ use Rattle.sto_model.specs.PlainReplies.{PlainReply, plain_reply}
 use Rattle.sto_type.specs.Known.{Known, beyond}
 use Rattle.sto_type.specs.Meaning.{Meaning}
 use Rattle.sto_type.specs.Plans.{Plan, Ask, Say, IsPlan, IsSaid, planned}
-use Rattle.sto_type.specs.Joined.{item_moved, plan_moved}
+use Rattle.sto_type.specs.Joined.{item_moved}
 use Rattle.sto_type.specs.Saying.{IsSaidFrom}
 use Rattle.sto_type.specs.declared.answer.Answer.{Answer}
 use Rattle.sto_type.specs.declared.answer.Answer.TheVariants.{Need, Done}
@@ -25,6 +25,10 @@ none_more p = omega arith
 pub said_same : (t : PlainReply) (is js : List Item) (es fs : List Entry) (a : Answer) → IsSaid t is es a → is ≡ js → es ≡ fs → IsSaid t js fs a
 said_same t is js es fs (Need p) h i e = absurd h
 said_same t is js es fs (Done reply items updates) h i e = (h.0, h.1 ∙ i, h.2 ∙ e)
+
+-- and with another reply that is the same
+pub said_in : (t u : PlainReply) (is js : List Item) (es fs : List Entry) (a : Answer) → IsSaid t is es a → t ≡ u → is ≡ js → es ≡ fs → IsSaid u js fs a
+said_in t u is js es fs a h r i e = subst (λ (v : PlainReply). IsSaid v js fs a) r (said_same t is js es fs a h i e)
 
 -- what an answer says of part 0 is said of its own part
 abbrev items_of : Plan → List Item

@@ -1,11 +1,9 @@
 -- A counter is lawful.
-use Rattle.std.specs.Prelude.{◌≡◌, ◌<◌, ◌≤◌, ◌⊎◌, ◌↔◌, ◌+ℤ◌, ◌-ℤ◌, ℕ, suc, ℤ, pos, negsuc, Bool, true, false, not, nat_eq, int_le, if◌then◌else◌, Option, Some, None, List, [], ◌∷◌, map, length, slice_index_or, IsSome, IsTrue, is_some, refl}
-use Rattle.std.specs.Int.{w64, int_wrap}
+use Rattle.std.specs.Prelude.{◌≡◌, ◌<◌, ◌↔◌, ◌+ℤ◌, ◌-ℤ◌, ℕ, suc, ℤ, pos, Bool, true, false, not, int_le, if◌then◌else◌, Option, Some, None, List, [], ◌∷◌, map, length, slice_index_or, IsSome, IsTrue, is_some, refl}
+use Rattle.std.specs.Int.{w64}
 use Rattle.std.specs.Int.RustNames.{FitsSigned}
-use Rattle.std.proofs.Common.{ap, sym, ◌∙◌, arith, inl, inr, subst}
-use Rattle.std.proofs.lemmas.Bool.{cases_Bool}
+use Rattle.std.proofs.Common.{ap, sym, ◌∙◌, arith, subst}
 use Rattle.std.proofs.lemmas.Int.{SFits-int_wrap, ints}
-use Rattle.sto_part.specs.Parts.{part_of}
 use Rattle.sto_part.specs.Changes.{wrapped_sum}
 use Rattle.sto_part.specs.Preds.{compares, negated, holds_of}
 use Rattle.sto_part.specs.declared.change.Change.TheVariants as C
@@ -29,8 +27,8 @@ use Rattle.sto_type.specs.Plans.{IsSaid, IsPlan, planned, said_is_plan}
 use Rattle.sto_type.specs.declared.answer.Answer.{Answer}
 use Rattle.sto_model.specs.SequentialObjects.{reply_to, state_after}
 use Rattle.sto_type.specs.Known.{Parts, Known, IsPartOf, ContentsFit}
-use Rattle.sto_type.specs.Meaning.{Meaning, IsLawful, IsNeed, IsUpdated, IsPartOfObject, EachKnown, EachInside, is_empty}
-use Rattle.sto_counter.specs.Sums.{word_pred_of, grows, falls, add_test, add_bound, add_items, add_updates, enough_items, take_items, take_updates, less}
+use Rattle.sto_type.specs.Meaning.{Meaning, IsLawful, IsUpdated, IsPartOfObject, EachKnown, EachInside}
+use Rattle.sto_counter.specs.Sums.{word_pred_of, grows, falls, add_updates, enough_items, take_items, take_updates, less}
 use Rattle.sto_counter.specs.SumsLaw.{holds_plain, compares-negated, add_observed, grown, not_grown, fallen, not_fallen, falls-up, falls-down}
 use Rattle.sto_counter.specs.CountedSteady.{counter_steady}
 use Rattle.sto_counter.specs.Counted.{counter_items, counter_updates, counter_meaning, test_items, asked, value_known, only_row, IsCounter, CounterTakes}
@@ -245,14 +243,14 @@ module _ (first : ℤ) where
   reply_any o a b rows = refl
 
   -- the replies
-  add_reply : (a b x : ℤ) → reply_to m.machines (call_of 0 Add a b) (only_row x ∷ []) ≡ (if grows a x then T.Done else T.Range)
+  pub add_reply : (a b x : ℤ) → reply_to m.machines (call_of 0 Add a b) (only_row x ∷ []) ≡ (if grows a x then T.Done else T.Range)
   add_reply a b x = by_test (grows a x) (λ e. rw (grown a x e).0 refl) (λ e. rw (not_grown a x e) refl)
 
   abbrev outcome_reply : Option Bool → PlainReply
   outcome_reply None = T.Flag false
   outcome_reply (Some b) = if b then T.Flag true else T.Range
 
-  take_reply : (a b x : ℤ) → reply_to m.machines (call_of 0 Take a b) (only_row x ∷ []) ≡ outcome_reply (take_outcome a x)
+  pub take_reply : (a b x : ℤ) → reply_to m.machines (call_of 0 Take a b) (only_row x ∷ []) ≡ outcome_reply (take_outcome a x)
   take_reply a b x =
       by_test (int_le a x)
       (λ e. by_test (falls a x) (λ r. rw (e, (fallen a x r).0) refl) (λ r. rw (e, not_fallen a x r) refl))

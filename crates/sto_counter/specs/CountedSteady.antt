@@ -1,6 +1,5 @@
 -- A counter is steady.
-use Rattle.std.proofs.Common.{◌≡◌, ℕ, ℤ, Bool, true, false, nat_eq, Some, None, Option, List, [], ◌∷◌, refl, ap, sym, ◌∙◌, inl, inr}
-use Rattle.sto_type.specs.Known.{Known, IsWithin}
+use Rattle.std.proofs.Common.{◌≡◌, ℤ, Some, None, refl, ap, sym, ◌∙◌, inl, inr}
 use Rattle.sto_type.specs.Meaning.{IsSteady}
 use Rattle.sto_type.specs.SteadyLaw.{by_known, no_part, same_part}
 use Rattle.sto_counter.specs.Counted.{counter_meaning}

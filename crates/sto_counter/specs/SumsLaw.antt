@@ -1,16 +1,16 @@
 -- The predicates of adds and takes tell what they are to tell.
-use Rattle.std.specs.Prelude.{◌≡◌, ◌<◌, ◌^◌, ◌⊎◌, ◌↔◌, ℕ, ℤ, pos, negsuc, ◌+ℤ◌, ◌-ℤ◌, int_le, int_lt, Bool, true, false, not, ◌&&◌, if◌then◌else◌, is_some, Some, None, List, [], ◌∷◌, IsTrue, refl}
+use Rattle.std.specs.Prelude.{◌≡◌, ◌↔◌, ℕ, ℤ, pos, ◌+ℤ◌, ◌-ℤ◌, int_le, Bool, true, false, not, ◌&&◌, if◌then◌else◌, is_some, Some, None, IsTrue, refl}
 use Rattle.std.specs.Int.{w64, int_wrap}
 use Rattle.std.specs.Int.RustNames.{FitsSigned}
-use Rattle.std.proofs.Common.{ap, sym, ◌∙◌, arith, inl, inr, subst}
+use Rattle.std.proofs.Common.{ap, sym, ◌∙◌, arith, inl, inr}
 use Rattle.std.proofs.lemmas.Bool.{cases_Bool}
-use Rattle.std.proofs.lemmas.Int.{int_wrap_fits, SFits-int_wrap, int_wrap-add_right, ints}
+use Rattle.std.proofs.lemmas.Int.{int_wrap_fits, int_wrap-add_right, ints}
 use Rattle.sto_part.specs.Changes.{wrapped_sum}
 use Rattle.sto_part.specs.Preds.{compares, negated, holds_of}
 use Rattle.sto_part.specs.declared.pred.Test.{Test}
 use Rattle.sto_part.specs.declared.pred.Test.TheVariants.{Eq, Ne, Lt, Le, Gt, Ge}
 use Rattle.sto_model.specs.Objects.{least, greatest, in_range}
-use Rattle.sto_model.specs.Ranges.{in_range-cases, in_range-fits}
+use Rattle.sto_model.specs.Ranges.{in_range-cases}
 use Rattle.sto_counter.specs.Sums.{word_pred_of, grows, falls, add_test, add_bound, less}
 
 -- a predicate without a shift, on a number of 64 bits, is its comparison

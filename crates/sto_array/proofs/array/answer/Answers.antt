@@ -13,8 +13,8 @@ returns-in-None c =
     let e = simp to_z-of_z at c.in-None.ensures in
     IfOk-weaker c.outside.result _ _ (λ a said. said_outside c.args.array.now.len c.args.array.now.first c.args.call.now (known c.args.cache.now) c.args.first a c.requires.takes (sym e) said) c.outside.ensures
 
-pub overflow_add-first_word : goal.overflow_add-first_word
-overflow_add-first_word c =
+pub overflow_add-part : goal.overflow_add-part
+overflow_add-part c =
     let f = c.requires.takes.fits in
     let e = simp to_z-of_z at c.in-Some.ensures in
     omega (arith, (place_some c.args.array.now.len c.args.call.now.a c.in-Some.place (sym e)).1, c.requires.few)

@@ -1,4 +1,4 @@
-use Rattle.std.proofs.Common.{◌≡◌, Some, sym, ap, ◌∙◌, subst, rules, FitsSigned, pos, slice_index_or}
+use Rattle.std.proofs.Common.{sym, ap, ◌∙◌, subst, rules, FitsSigned, pos, slice_index_or}
 use Rattle.std.specs.Int.{w64}
 use Rattle.std.proofs.lemmas.Int.{to_z-of_z}
 use Rattle.sto_model.specs.Objects.{effect_of}
