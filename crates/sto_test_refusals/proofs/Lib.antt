@@ -5,3 +5,4 @@ pub mod Unrun
 pub mod Closings
 pub mod TwoWorkers
 pub mod Untold
+pub mod UnlawfulAborts

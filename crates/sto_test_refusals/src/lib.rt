@@ -10,4 +10,4 @@ mod library;
 mod reports;
 
 pub use library::{not_closed, not_looked, not_run};
-pub use reports::{no_lawful_report, not_found_lawful};
+pub use reports::{no_lawful_abort, no_lawful_report, not_found_lawful};
