@@ -13,6 +13,9 @@
  * Nothing here blocks, sleeps or starts a thread. No function may be called from a signal handler, or in a child that a
  * program with threads has forked.
  *
+ * What is said here of time is by how the code works, and no clause speaks of it. docs/c.md names the clauses of all else, which hold
+ * on the proved library (sto_build); of the plain one nothing is proved.
+ *
  * Every number that is given is tested: what will not do is answered by a status. Where several things are wrong, the status tells
  * the first of them, in this order:
  *
@@ -59,7 +62,7 @@ const char *sto_sources(void);
 typedef enum sto_status {
     STO_OK = 0,
     /* Memory was wanting. A transaction that was under way has ended, and nothing of it took effect. A handle that was to be
-     * filled holds nothing. */
+     * filled holds nothing. A store that was to be closed may be lost (sto_close). */
     STO_NO_MEMORY = 1,
     /* The handle holds nothing. */
     STO_EMPTY = 2,
@@ -79,12 +82,13 @@ typedef enum sto_status {
     /* The transaction met another one: it has ended, and nothing of it took effect. Begin again, after a yield or a pause. */
     STO_ABORTED = 9,
     /* sto_run was aborted eight times, and nothing took effect; or a thread has not returned yet from the sto_give_back by which the
-     * last worker came back to a store that is to be closed (sto_close). Yield or pause, and call again. No other function answers it:
-     * sto_give_back would where another thread were at the place of its worker, and each worker has a place of its own. */
+     * last worker came back to a store that is to be closed (sto_close). Yield or pause, and call again. Of other functions
+     * the clause of sto_give_back allows it, where another thread were at the place of its worker; but each worker has a place of its own,
+     * and no test has seen it. */
     STO_BUSY = 10,
-    /* The worker has begun 2^40 transactions, which is all that it may. One that fails for want of memory counts. */
+    /* No ticket is left to the worker: it had 2^40 as the store was opened, and each begin takes one, also where memory is wanting. */
     STO_NO_TICKETS = 11,
-    /* No worker rests in the store: all were given out, and none was given back. */
+    /* No worker rests in the store: all were given out, and none was found that had come back. */
     STO_NO_WORKER = 12,
     /* A store has from 1 to 65,536 workers. */
     STO_BAD_WORKERS = 13,
@@ -211,8 +215,8 @@ uint32_t sto_give_back(sto_handle *worker);
 
 /* Closes a store in which all its workers rest: its handle then holds the rows of its objects, as the last commit left them.
  * Where not all were given back the store stays open (STO_WORKERS_OUT), and where a call that gave one back has not returned yet
- * (STO_BUSY). Where memory is wanting it stays open or, at the end, is lost: then the handle holds nothing. It takes time by
- * what all objects have room for. */
+ * (STO_BUSY: that this is why is no clause). Where memory is wanting it stays open or, at the end, is lost: then the handle holds
+ * nothing. It takes time by what all objects have room for. */
 uint32_t sto_close(sto_handle *store);
 
 /* Copies the rows of a store that was closed, by object and key, and writes how many they are. Where there is less room it copies
@@ -228,8 +232,9 @@ uint32_t sto_free(sto_handle *handle);
 uint32_t sto_begin(sto_handle *worker);
 
 /* Asks a call of the transaction that the worker is in, and writes what it answered. The answers so far are those of one state
- * of the objects, also where the transaction is aborted later. The call and the reply may not overlap. It takes time as sto_operation
- * says; and where another transaction has changed something meanwhile, by all that this one has observed, once in each call. */
+ * of the objects, also where the transaction is aborted later; no clause says how new this state is. The call and the reply may not
+ * overlap. It takes time as sto_operation says; and where another transaction has changed something meanwhile, by all that this one has
+ * observed, once in each call. */
 uint32_t sto_ask(sto_handle *worker, const sto_call *call, sto_reply *reply);
 
 /* Copies the pairs of the last reply of the transaction that the worker is in, and writes how many they are. Where there is
@@ -239,7 +244,7 @@ uint32_t sto_pairs(sto_handle *worker, sto_pair *pairs, size_t room, size_t *cou
 
 /* Copies the next pairs of a tree: those of its keys from `from` on, in their order, as many as there is room for, and writes how many
  * they are. Where it writes fewer than there is room for, the tree has no more; else the next piece begins behind the last key. It asks
- * STO_NEXT and STO_GET in turn and takes their time; the transaction has read nothing else, and its last reply has no pairs. Without
+ * STO_NEXT and STO_GET in turn and takes their time, and asks nothing else; behind such a call the last reply has no pairs. Without
  * room it asks nothing, but is refused where STO_NEXT would be. Where the answer is not STO_OK, some pairs may have been written, and
  * they count for nothing. (No operation finds the keys of a hash table: a program that is to walk them keeps them in a tree besides, or
  * reads the rows of the closed store.) */
