@@ -1,27 +1,16 @@
 -- Two events that lead from one view to the same are told alike, but for which load of a version it was.
-use Rattle.std.specs.Prelude.{slice_index_or, nat_eq, nat_lt, ◌&&◌}
-use Rattle.std.proofs.Common.{◌≡◌, ◌≤◌, ◌⊎◌, ◌+◌, ℕ, suc, ℤ, List, [], ◌∷◌, ◌++◌, map, length, length-append, Option, None, Some, Bool, true, false, if◌then◌else◌, refl, sym, ap, ◌∙◌, subst, arith, inl, inr}
+use Rattle.std.specs.Prelude.{nat_eq}
+use Rattle.std.proofs.Common.{◌≡◌, ◌+◌, ◌*◌, ℕ, ℤ, List, [], ◌∷◌, ◌++◌, length, length-append, Option, None, Some, Bool, true, false, refl, sym, ap, ◌∙◌, arith, inl, inr}
 use Rattle.std.proofs.lemmas.List.{length-map}
 use Rattle.std.proofs.lemmas.Bool.{cases_Bool}
-use Rattle.std.proofs.lemmas.Bool.Decides.{nat_tests}
-use Rattle.sto_part.specs.declared.change.Change.{Change}
-use Rattle.sto_part.specs.declared.change.Change.TheVariants.{Keep, Put as PutValue, Add}
-use Rattle.sto_item.specs.Pending.{change_at}
-use Rattle.sto_core.specs.declared.view.Entry.{Entry}
 use Rattle.sto_core.specs.declared.view.Finding.{Finding}
-use Rattle.sto_core.specs.declared.view.Held.{Held}
 use Rattle.sto_core.specs.declared.view.OpenRead.{OpenRead}
 use Rattle.sto_core.specs.declared.view.Phase.{Phase}
 use Rattle.sto_core.specs.declared.view.Phase.TheVariants.{Idle, Reading, Looking, Locking, Testing, Drawn, Won, Lost}
 use Rattle.sto_core.specs.declared.view.View.{View}
-use Rattle.sto_core.specs.History.{Validity}
-use Rattle.sto_core.specs.Reads.{Reads}
-use Rattle.sto_core.specs.Puts.{IsPutOf}
-use Rattle.sto_core.specs.Views.{holds, hold_of, without, own_entry}
-use Rattle.sto_core.specs.Event.{Event, Start, Open, Word, Close, Renew, Recheck, Lock, Test, Draw, Check, Decide, Put, Release, Unlock, after, found, read_by, closed_by, claimed, rechecked_by, locked_by, checked_by, is_claimed_still, passes_check, with_held_read, put_by, phase_left, decided}
+use Rattle.sto_core.specs.Views.{holds}
+use Rattle.sto_core.specs.Event.{Event, Start, Open, Word, Close, Renew, Recheck, Lock, Test, Draw, Check, Decide, Put, Release, Unlock, after, found, read_by, closed_by, claimed, rechecked_by, locked_by, checked_by, is_claimed_still, passes_check}
 use Rattle.sto_core.specs.Versions.{is_free}
-use Rattle.sto_core.specs.Allowed.{Allowed, MayRead, MayClose, MayLock, MayPut, MayRelease, MayUnlock, IsIdle, IsDrawn}
-use Rattle.sto_trace.specs.declared.Deed.{Deed}
 use Rattle.sto_trace.specs.declared.Deed.TheVariants as deeds
 use Rattle.sto_trace.specs.Deeds.{deed_of, version_with}
 use Rattle.sto_test_refusals.proofs.Lists.{last_same}
@@ -30,7 +19,7 @@ use Rattle.sto_test_program_refusals.specs.Told.{plain, version_told, start_told
 -- What is found
 
 -- the findings with one more, where a version was found
-found_after : View → Option (ℕ × ℕ) → List Finding
+abbrev found_after : View → Option (ℕ × ℕ) → List Finding
 found_after v None = v.findings
 found_after v (Some at) = v.findings ++ record { start = v.starts; part = at.0; version = at.1; held = holds at.0 v.held } ∷ []
 
@@ -111,12 +100,12 @@ same_found v None (Some at) e = absurd (more_found v at e)
 same_found v (Some at) None e = absurd (more_found v at (sym e))
 same_found v (Some at) (Some other) e = ap (λ (f : Finding). Some (f.part, f.version)) (last_same v.findings _ _ e)
 
-some_same : {X : Type 0} {x y : X} → Some x ≡ Some y → x ≡ y
+pub some_same : {X : Type 0} {x y : X} → Some x ≡ Some y → x ≡ y
 some_same e = cc
 
 -- A start
 
-started : View → Option ℕ → ℕ
+abbrev started : View → Option ℕ → ℕ
 started v None = v.starts
 started v (Some clock) = v.starts + 1
 
@@ -154,7 +143,7 @@ start_clock (Unlock p) v n x clock told = cc
 
 -- A draw
 
-drawn_after : View → Option ℕ → ℕ
+abbrev drawn_after : View → Option ℕ → ℕ
 drawn_after v None = length v.entries
 drawn_after v (Some ticket) = length v.entries + 1
 
@@ -190,13 +179,13 @@ draw_ticket (Put p i y) v n x ticket told = cc
 draw_ticket (Release p) v n x ticket told = cc
 draw_ticket (Unlock p) v n x ticket told = cc
 
-ticket_in : Phase → ℕ
+abbrev ticket_in : Phase → ℕ
 ticket_in (Drawn t) = t
 ticket_in other = 0
 
 -- What the deed is, by what it tells
 
-version_is : (e : Event) (n : ℕ) (x : ℤ) (at : ℕ × ℕ) → version_told (deed_of e n x) ≡ Some at → plain (deed_of e n x) ≡ deeds.Check at.0 (version_with at.1)
+pub version_is : (e : Event) (n : ℕ) (x : ℤ) (at : ℕ × ℕ) → version_told (deed_of e n x) ≡ Some at → plain (deed_of e n x) ≡ deeds.Check at.0 (version_with at.1)
 version_is Start n x at told = cc
 version_is (Open p) n x at told = ap (λ (a : ℕ × ℕ). deeds.Check a.0 (version_with a.1)) (some_same told)
 version_is (Word p i) n x at told = cc
@@ -212,7 +201,7 @@ version_is (Put p i y) n x at told = cc
 version_is (Release p) n x at told = cc
 version_is (Unlock p) n x at told = cc
 
-start_is : (e : Event) (n : ℕ) (x : ℤ) (clock : ℕ) → start_told (deed_of e n x) ≡ Some clock → plain (deed_of e n x) ≡ deeds.Start clock
+pub start_is : (e : Event) (n : ℕ) (x : ℤ) (clock : ℕ) → start_told (deed_of e n x) ≡ Some clock → plain (deed_of e n x) ≡ deeds.Start clock
 start_is Start n x clock told = ap deeds.Start (some_same told)
 start_is (Open p) n x clock told = cc
 start_is (Word p i) n x clock told = cc
@@ -228,7 +217,7 @@ start_is (Put p i y) n x clock told = cc
 start_is (Release p) n x clock told = cc
 start_is (Unlock p) n x clock told = cc
 
-ticket_is : (e : Event) (n : ℕ) (x : ℤ) (ticket : ℕ) → ticket_told (deed_of e n x) ≡ Some ticket → plain (deed_of e n x) ≡ deeds.Draw ticket
+pub ticket_is : (e : Event) (n : ℕ) (x : ℤ) (ticket : ℕ) → ticket_told (deed_of e n x) ≡ Some ticket → plain (deed_of e n x) ≡ deeds.Draw ticket
 ticket_is Start n x ticket told = cc
 ticket_is (Open p) n x ticket told = cc
 ticket_is (Word p i) n x ticket told = cc
@@ -246,7 +235,7 @@ ticket_is (Unlock p) n x ticket told = cc
 
 -- Two events that lead from one view to the same tell the same of versions, starts and tickets
 module _ (v : View) (e f : Event) (n m : ℕ) (x y : ℤ) (same : after e v n x ≡ after f v m y) where
-  same_version : version_told (deed_of e n x) ≡ version_told (deed_of f m y)
+  pub same_version : version_told (deed_of e n x) ≡ version_told (deed_of f m y)
   same_version = same_found v _ _ (sym (finds e v n x) ∙ ap (λ (w : View). w.findings) same ∙ finds f v m y)
 
   start_by : (o q : Option ℕ) → start_told (deed_of e n x) ≡ o → start_told (deed_of f m y) ≡ q → o ≡ q
@@ -261,7 +250,7 @@ module _ (v : View) (e f : Event) (n m : ℕ) (x y : ℤ) (same : after e v n x 
       let second : (after f v m y).starts ≡ v.starts = starts f v m y ∙ ap (started v) r in
       let one : (after e v n x).starts ≡ (after f v m y).starts = ap (λ (w : View). w.starts) same in absurd (omega (arith, first, second, one))
 
-  same_start : start_told (deed_of e n x) ≡ start_told (deed_of f m y)
+  pub same_start : start_told (deed_of e n x) ≡ start_told (deed_of f m y)
   same_start = start_by _ _ refl refl
 
   ticket_by : (o q : Option ℕ) → ticket_told (deed_of e n x) ≡ o → ticket_told (deed_of f m y) ≡ q → o ≡ q
@@ -276,5 +265,5 @@ module _ (v : View) (e f : Event) (n m : ℕ) (x y : ℤ) (same : after e v n x 
       let second : length (after f v m y).entries ≡ length v.entries = draws f v m y ∙ ap (drawn_after v) r in
       let one : length (after e v n x).entries ≡ length (after f v m y).entries = ap (λ (w : View). length w.entries) same in absurd (omega (arith, first, second, one))
 
-  same_ticket : ticket_told (deed_of e n x) ≡ ticket_told (deed_of f m y)
+  pub same_ticket : ticket_told (deed_of e n x) ≡ ticket_told (deed_of f m y)
   same_ticket = ticket_by _ _ refl refl
