@@ -5,7 +5,6 @@ use Rattle.std.proofs.lemmas.Bool.{cases_Bool}
 use Rattle.std.proofs.lemmas.Bool.Decides.{nat_tests}
 use Rattle.sto_part.specs.declared.change.Change.{Change}
 use Rattle.sto_part.specs.declared.change.Change.TheVariants.{Keep, Put as PutValue, Add}
-use Rattle.sto_item.specs.Pending.{change_at}
 use Rattle.sto_core.specs.declared.view.Held.{Held}
 use Rattle.sto_core.specs.declared.view.OpenRead.{OpenRead}
 use Rattle.sto_core.specs.declared.view.Phase.{Phase}
@@ -14,7 +13,7 @@ use Rattle.sto_core.specs.declared.view.View.{View}
 use Rattle.sto_core.specs.History.{Validity}
 use Rattle.sto_core.specs.Reads.{Reads}
 use Rattle.sto_core.specs.Puts.{IsPutOf}
-use Rattle.sto_core.specs.Views.{holds, hold_of, without, own_entry}
+use Rattle.sto_core.specs.Views.{holds, without}
 use Rattle.sto_core.specs.Event.{Event, Start, Open, Word, Close, Renew, Recheck, Lock, Test, Draw, Check, Decide, Put, Release, Unlock, after, read_by, with_held_read, put_by, phase_left}
 use Rattle.sto_core.specs.Allowed.{Allowed, MayRead, MayPut, MayRelease, MayUnlock}
 use Rattle.sto_trace.specs.declared.Deed.TheVariants as deeds
@@ -292,18 +291,15 @@ module _ (valid : Validity) (v : View) (n m : ℕ) (x y : ℤ) where
   decisions true false a b same = let clash : true ≡ false = ap (λ (w : View). has_won w.phase) same in absurd cc
   decisions false true a b same = let clash : false ≡ true = ap (λ (w : View). has_won w.phase) same in absurd cc
 
-  abbrev at_put : ℕ → ℕ → ℤ → Type 0
-  at_put p i z = IsPutOf (change_at (own_entry v).updates p i) (hold_of p v.held).reads i z
-
   puts_two : (t : ℕ) (puts : List (ℕ × ℕ)) (p i q j : ℕ) (z u : ℤ) → v.phase ≡ Won t puts → AreAlike (Put p i z) (Put q j u)
   puts_two t puts p i q j z u phase a b same =
       let put : Won t (puts ++ (p, i) ∷ []) ≡ Won t (puts ++ (q, j) ∷ []) =
           subst (λ (h : Phase). put_by h p i ≡ put_by h q j) phase (ap (λ (w : View). w.phase) same) in
       let at : (p, i) ≡ (q, j) = last_same puts (p, i) (q, j) (ap puts_in put) in
-      let first : at_put p i z = (subst (MayPut p i z v) phase a).2 in
-      let second : at_put q j u = (subst (MayPut q j u v) phase b).2 in
-      let there : at_put p i u = subst (λ (k : ℕ × ℕ). at_put k.0 k.1 u) (sym at) second in
-      ap (λ (k : ℕ × ℕ). deeds.Put k.0 k.1 z) at ∙ ap (deeds.Put q j) (one_put (change_at (own_entry v).updates p i) (hold_of p v.held).reads i z u first there)
+      let first : MayPut p i z v (Won t puts) = subst (MayPut p i z v) phase a in
+      let second : MayPut q j u v (Won t puts) = subst (MayPut q j u v) phase b in
+      let there : MayPut p i u v (Won t puts) = subst (λ (k : ℕ × ℕ). MayPut k.0 k.1 u v (Won t puts)) (sym at) second in
+      ap (λ (k : ℕ × ℕ). deeds.Put k.0 k.1 z) at ∙ ap (deeds.Put q j) (one_put _ _ i z u first.2 there.2)
 
   left_puts : (hs : List Held) (t : ℕ) (puts : List (ℕ × ℕ)) (at : ℕ × ℕ) → puts ++ at ∷ [] ≡ puts_in (phase_left hs (Won t puts)) → ⊥
   left_puts [] t puts at e =
