@@ -1,6 +1,6 @@
--- Two events that lead from one view to the same are told alike, but for which load of a version it was.
+-- Two events that lead from one view to the same are told alike, but for which load of a version that led no further it was.
 use Rattle.std.specs.Prelude.{nat_eq}
-use Rattle.std.proofs.Common.{◌≡◌, ◌+◌, ◌*◌, ℕ, ℤ, List, [], ◌∷◌, ◌++◌, length, length-append, Option, None, Some, Bool, true, false, refl, sym, ap, ◌∙◌, arith, inl, inr}
+use Rattle.std.proofs.Common.{◌≡◌, ◌+◌, ◌*◌, ℕ, ℤ, List, [], ◌∷◌, ◌++◌, length, length-append, Option, None, Some, Bool, true, false, refl, sym, ap, ◌∙◌, arith, inl, inr, zero, suc, if◌then◌else◌}
 use Rattle.std.proofs.lemmas.List.{length-map}
 use Rattle.std.proofs.lemmas.Bool.{cases_Bool}
 use Rattle.sto_core.specs.declared.view.Finding.{Finding}
@@ -11,6 +11,7 @@ use Rattle.sto_core.specs.declared.view.View.{View}
 use Rattle.sto_core.specs.Views.{holds}
 use Rattle.sto_core.specs.Event.{Event, Start, Open, Word, Close, Renew, Recheck, Lock, Test, Draw, Check, Decide, Put, Release, Unlock, after, found, read_by, closed_by, claimed, rechecked_by, locked_by, checked_by, is_claimed_still, passes_check}
 use Rattle.sto_core.specs.Versions.{is_free}
+use Rattle.sto_trace.specs.declared.Deed.{Deed}
 use Rattle.sto_trace.specs.declared.Deed.TheVariants as deeds
 use Rattle.sto_trace.specs.Deeds.{deed_of, version_with}
 use Rattle.sto_test_refusals.proofs.Lists.{last_same}
@@ -185,17 +186,34 @@ ticket_in other = 0
 
 -- What the deed is, by what it tells
 
-pub version_is : (e : Event) (n : ℕ) (x : ℤ) (at : ℕ × ℕ) → version_told (deed_of e n x) ≡ Some at → plain (deed_of e n x) ≡ deeds.Check at.0 (version_with at.1)
+-- which load of a version it was
+abbrev pub load : Deed → ℕ
+load (deeds.Close part version) = 1
+load (deeds.Check part version) = 2
+load (deeds.Lock part version) = if is_free version.0 then 3 else 0
+load deed = 0
+
+-- the plain deed of a load
+abbrev pub loading : ℕ → ℕ × ℕ → Deed
+loading zero at = deeds.Open at.0 (version_with at.1)
+loading (suc zero) at = deeds.Close at.0 (version_with at.1)
+loading (suc (suc zero)) at = deeds.Check at.0 (version_with at.1)
+loading (suc (suc (suc more))) at = deeds.Lock at.0 (version_with at.1)
+
+pub version_is : (e : Event) (n : ℕ) (x : ℤ) (at : ℕ × ℕ) → version_told (deed_of e n x) ≡ Some at → plain (deed_of e n x) ≡ loading (load (deed_of e n x)) at
 version_is Start n x at told = cc
-version_is (Open p) n x at told = ap (λ (a : ℕ × ℕ). deeds.Check a.0 (version_with a.1)) (some_same told)
+version_is (Open p) n x at told = ap (loading 0) (some_same told)
 version_is (Word p i) n x at told = cc
-version_is (Close p) n x at told = ap (λ (a : ℕ × ℕ). deeds.Check a.0 (version_with a.1)) (some_same told)
+version_is (Close p) n x at told = ap (loading 1) (some_same told)
 version_is Renew n x at told = cc
-version_is (Recheck p) n x at told = ap (λ (a : ℕ × ℕ). deeds.Check a.0 (version_with a.1)) (some_same told)
-version_is (Lock p) n x at told = ap (λ (a : ℕ × ℕ). deeds.Check a.0 (version_with a.1)) (some_same told)
-version_is (Test p) n x at told = ap (λ (a : ℕ × ℕ). deeds.Check a.0 (version_with a.1)) (some_same told)
+version_is (Recheck p) n x at told = ap (loading 0) (some_same told)
+version_is (Lock p) n x at told = elim (cases_Bool (is_free n)) [
+  | inl free ↦ rw free (ap (loading 3) (some_same told))
+  | inr locked ↦ rw locked (ap (loading 0) (some_same told))
+]
+version_is (Test p) n x at told = ap (loading 0) (some_same told)
 version_is (Draw us seen loaded) n x at told = cc
-version_is (Check p) n x at told = ap (λ (a : ℕ × ℕ). deeds.Check a.0 (version_with a.1)) (some_same told)
+version_is (Check p) n x at told = ap (loading 2) (some_same told)
 version_is (Decide commit) n x at told = cc
 version_is (Put p i y) n x at told = cc
 version_is (Release p) n x at told = cc

@@ -47,12 +47,12 @@ module _ (kind : Step → Type 0) (steps : List Step) where
   pub told_kind : (told : Step) → HasLogged kind (Some steps) (Some (steps ++ told ∷ [])) → kind told
   told_kind told logged = subst kind (sym (step_is steps logged.0 told logged.2)) logged.1
 
--- the deed that is told is that of the event by which the words were changed, but for which load of a version it was
+-- the deed that is told is that of the event by which the words were changed, but for which load of a version that led no further it was
 pub told_plain : (valid : Validity) (c : Core) (thread : ℕ) (d : Core) (told : Step) (s : AStep valid c thread d)
     → IsDone valid (length c.statuses) told.deed (view_of c thread) (view_of d thread) → plain told.deed ≡ plain (made s.event c)
 told_plain valid c thread d told s done =
     let found : deed_of s.event s.number s.value ≡ made s.event c =
-        ap (λ n. deed_of s.event n s.value) s.steps.number ∙ ap (deed_of s.event _) s.steps.value in
+    ap (λ n. deed_of s.event n s.value) s.steps.number ∙ ap (deed_of s.event _) s.steps.value in
     ap plain done.did
     ∙ same_plain valid (view_of c thread) done.number s.number done.value s.value done.event s.event done.tells.allowed s.steps.tells.allowed
     (sym done.tells.after ∙ s.steps.tells.after)

@@ -1,6 +1,6 @@
--- Two events that lead from one view to the same view are told alike, but for which load of a version it was.
+-- Two events that lead from one view to the same view are told alike, but for which load of a version that led no further it was.
 use Rattle.std.specs.Prelude.{nat_eq}
-use Rattle.std.proofs.Common.{◌≡◌, ◌⊎◌, ◌+◌, ℕ, ℤ, List, [], ◌∷◌, ◌++◌, map, length, length-append, Option, None, Some, Bool, true, false, refl, sym, ap, ◌∙◌, subst, arith, inl, inr}
+use Rattle.std.proofs.Common.{◌≡◌, ◌⊎◌, ◌+◌, ℕ, ℤ, List, [], ◌∷◌, ◌++◌, map, length, length-append, Option, None, Some, Bool, true, false, if◌then◌else◌, refl, sym, ap, ◌∙◌, subst, arith, inl, inr}
 use Rattle.std.proofs.lemmas.Bool.{cases_Bool}
 use Rattle.std.proofs.lemmas.Bool.Decides.{nat_tests}
 use Rattle.sto_part.specs.declared.change.Change.{Change}
@@ -14,13 +14,14 @@ use Rattle.sto_core.specs.History.{Validity}
 use Rattle.sto_core.specs.Reads.{Reads}
 use Rattle.sto_core.specs.Puts.{IsPutOf}
 use Rattle.sto_core.specs.Views.{holds, without}
-use Rattle.sto_core.specs.Event.{Event, Start, Open, Word, Close, Renew, Recheck, Lock, Test, Draw, Check, Decide, Put, Release, Unlock, after, read_by, with_held_read, put_by, phase_left}
-use Rattle.sto_core.specs.Allowed.{Allowed, MayRead, MayPut, MayRelease, MayUnlock}
+use Rattle.sto_core.specs.Event.{Event, Start, Open, Word, Close, Renew, Recheck, Lock, Test, Draw, Check, Decide, Put, Release, Unlock, after, read_by, with_held_read, put_by, phase_left, found, rechecked_by, is_claimed_still}
+use Rattle.sto_core.specs.Versions.{is_free}
+use Rattle.sto_core.specs.Allowed.{Allowed, MayClose, MayLock, MayRead, MayPut, MayRelease, MayUnlock}
 use Rattle.sto_trace.specs.declared.Deed.TheVariants as deeds
 use Rattle.sto_trace.specs.Deeds.{deed_of}
 use Rattle.sto_test_refusals.proofs.Lists.{last_same}
 use Rattle.sto_test_program_refusals.specs.Told.{plain, version_told, start_told, ticket_told}
-use Rattle.sto_test_program_refusals.proofs.Deeds.{version_is, start_is, ticket_is, same_version, same_start, same_ticket}
+use Rattle.sto_test_program_refusals.proofs.Deeds.{load, loading, version_is, start_is, ticket_is, same_version, same_start, same_ticket}
 
 no_some : {X : Type 0} {x : X} → None ≡ Some x → ⊥
 no_some e = cc
@@ -128,7 +129,8 @@ module _ (valid : Validity) (v : View) (n : ℕ) (x : ℤ) where
   in_drawn (Release p) t phase may version start = absurd (subst (MayRelease p v) phase may)
   in_drawn (Unlock p) t phase may version start = absurd (subst (MayUnlock p v) phase may)
 
-  in_won : (e : Event) (t : ℕ) (puts : List (ℕ × ℕ)) → v.phase ≡ (Won t puts) → Allowed valid e v → version_told (deed_of e n x) ≡ None → start_told (deed_of e n x) ≡ None → ((p : ℕ) × (i : ℕ) × (y : ℤ) × (e ≡ Put p i y)) ⊎ ((p : ℕ) × (e ≡ Release p))
+  in_won : (e : Event) (t : ℕ) (puts : List (ℕ × ℕ)) → v.phase ≡ (Won t puts) → Allowed valid e v → version_told (deed_of e n x) ≡ None → start_told (deed_of e n x) ≡ None
+      → ((p : ℕ) × (i : ℕ) × (y : ℤ) × (e ≡ Put p i y)) ⊎ ((p : ℕ) × (e ≡ Release p))
   in_won Start t puts phase may version start = absurd (no_some (sym start))
   in_won (Open p) t puts phase may version start = absurd (no_some (sym version))
   in_won (Word p i) t puts phase may version start = absurd (subst (MayRead v p) phase may.0)
@@ -198,9 +200,9 @@ keeps p q (h ∷ hs) other held = elim (cases_Bool (nat_eq h.part p)) [
       let miss : nat_eq h.part q ≡ false = grind (arith, nat_tests) in
       rw hit (keeps p q hs other (rw miss at held))
   | inr miss ↦ elim (cases_Bool (nat_eq h.part q)) [
-      | inl there ↦ rw miss (rw there refl)
-      | inr elsewhere ↦ rw miss (rw elsewhere (keeps p q hs other (rw elsewhere at held)))
-    ]
+    | inl there ↦ rw miss (rw there refl)
+    | inr elsewhere ↦ rw miss (rw elsewhere (keeps p q hs other (rw elsewhere at held)))
+  ]
 ]
 
 same_let_go : (p q : ℕ) (hs : List Held) → holds p hs ≡ true → holds q hs ≡ true → without p hs ≡ without q hs → p ≡ q
@@ -240,9 +242,9 @@ same_held_read p q i j x y (h ∷ hs) held same =
     let first : (with_held_read p i x h).reads ≡ (with_held_read q j y h).reads = ap reads_first same in
     elim (cases_Bool (nat_eq h.part p)) [
       | inl hit ↦ elim (cases_Bool (nat_eq h.part q)) [
-          | inl there ↦ (grind (arith, nat_tests), last_same h.reads (i, x) (j, y) (rw there at (rw hit at first)))
-          | inr miss ↦ absurd (one_more h.reads (i, x) (rw miss at (rw hit at first)))
-        ]
+        | inl there ↦ (grind (arith, nat_tests), last_same h.reads (i, x) (j, y) (rw there at (rw hit at first)))
+        | inr miss ↦ absurd (one_more h.reads (i, x) (rw miss at (rw hit at first)))
+      ]
       | inr miss ↦ same_held_read p q i j x y hs (rw miss at held) (ap others same)
     ]
 
@@ -265,6 +267,72 @@ abbrev reads_of : Phase → List (ℕ × ℤ)
 reads_of (Looking r) = r.reads
 reads_of (Testing r) = r.reads
 reads_of other = []
+
+-- Which load it was
+
+-- a hold was taken
+abbrev grown : ℕ → ℕ → ℕ
+grown before now = if nat_eq before now then 0 else 3
+
+abbrev load_by : Phase → (before now : ℕ) → ℕ
+load_by (Looking r) before now = 1
+load_by (Testing r) before now = 1
+load_by (Drawn t) before now = 2
+load_by other before now = grown before now
+
+not_grown : (k : ℕ) → 0 ≡ grown k k
+not_grown k = let same : nat_eq k k ≡ true = grind (arith, nat_tests) in rw same refl
+
+one_grown : (k m : ℕ) → m ≡ k + 1 → 3 ≡ grown k m
+one_grown k m e = let apart : nat_eq k m ≡ false = grind (arith, nat_tests) in rw apart refl
+
+module _ (v : View) (p : ℕ) where
+  close_load : (h : Phase) (before now : ℕ) → MayClose v p h → 1 ≡ load_by h before now
+  close_load Idle before now may = absurd may
+  close_load Reading before now may = absurd may
+  close_load (Looking r) before now may = refl
+  close_load Locking before now may = absurd may
+  close_load (Testing r) before now may = refl
+  close_load (Drawn t) before now may = absurd may
+  close_load (Won t puts) before now may = absurd may
+  close_load (Lost t) before now may = absurd may
+
+  lock_load : (h : Phase) (before now : ℕ) → MayLock v p h → grown before now ≡ load_by h before now
+  lock_load Idle before now may = absurd may
+  lock_load Reading before now may = refl
+  lock_load (Looking r) before now may = absurd may
+  lock_load Locking before now may = refl
+  lock_load (Testing r) before now may = absurd may
+  lock_load (Drawn t) before now may = absurd may
+  lock_load (Won t puts) before now may = absurd may
+  lock_load (Lost t) before now may = absurd may
+
+recheck_holds : (b : Bool) (v : View) (p n : ℕ) → (rechecked_by b v p n).held ≡ v.held
+recheck_holds true v p n = refl
+recheck_holds false v p n = refl
+
+module _ (valid : Validity) (v : View) (n : ℕ) (x : ℤ) where
+  in_phase : (h : Phase) (now : ℕ) → v.phase ≡ h → now ≡ length v.held → load_by h (length v.held) (length v.held) ≡ load_by v.phase (length v.held) now
+  in_phase h now phase same = ap (λ (k : Phase). load_by k (length v.held) (length v.held)) (sym phase) ∙ ap (load_by v.phase (length v.held)) (sym same)
+
+  load_is : (e : Event) (at : ℕ × ℕ) → Allowed valid e v → version_told (deed_of e n x) ≡ Some at → load (deed_of e n x) ≡ load_by v.phase (length v.held) (length (after e v n x).held)
+  load_is Start at may told = cc
+  load_is (Open p) at may told = not_grown (length v.held) ∙ in_phase Reading _ may.0 refl
+  load_is (Word p i) at may told = cc
+  load_is (Close p) at may told = close_load v p v.phase _ _ may.0
+  load_is Renew at may told = cc
+  load_is (Recheck p) at may told = not_grown (length v.held) ∙ in_phase Reading _ may.0 (ap length (recheck_holds (is_claimed_still v p n) (found v p n) p n))
+  load_is (Lock p) at may told = elim (cases_Bool (is_free n)) [
+    | inl free ↦ rw free (one_grown (length v.held) _ (length-append v.held _) ∙ lock_load v p v.phase _ _ may.0)
+    | inr locked ↦ rw locked (not_grown (length v.held) ∙ lock_load v p v.phase _ _ may.0)
+  ]
+  load_is (Test p) at may told = not_grown (length v.held) ∙ in_phase Locking _ may.0 refl
+  load_is (Draw us seen loaded) at may told = cc
+  load_is (Check p) at may told = ap (λ (h : Phase). load_by h (length v.held) (length (after (Check p) v n x).held)) (sym may.0.1)
+  load_is (Decide commit) at may told = cc
+  load_is (Put p i y) at may told = cc
+  load_is (Release p) at may told = cc
+  load_is (Unlock p) at may told = cc
 
 -- Two events of each phase
 
@@ -294,7 +362,7 @@ module _ (valid : Validity) (v : View) (n m : ℕ) (x y : ℤ) where
   puts_two : (t : ℕ) (puts : List (ℕ × ℕ)) (p i q j : ℕ) (z u : ℤ) → v.phase ≡ Won t puts → AreAlike (Put p i z) (Put q j u)
   puts_two t puts p i q j z u phase a b same =
       let put : Won t (puts ++ (p, i) ∷ []) ≡ Won t (puts ++ (q, j) ∷ []) =
-          subst (λ (h : Phase). put_by h p i ≡ put_by h q j) phase (ap (λ (w : View). w.phase) same) in
+      subst (λ (h : Phase). put_by h p i ≡ put_by h q j) phase (ap (λ (w : View). w.phase) same) in
       let at : (p, i) ≡ (q, j) = last_same puts (p, i) (q, j) (ap puts_in put) in
       let first : MayPut p i z v (Won t puts) = subst (MayPut p i z v) phase a in
       let second : MayPut q j u v (Won t puts) = subst (MayPut q j u v) phase b in
@@ -400,8 +468,14 @@ module _ (valid : Validity) (v : View) (n m : ℕ) (x y : ℤ) where
     by_start version (Some c) p = start_is e n x c p ∙ sym (start_is f m y c (sym (same_start v e f n m x y same) ∙ p))
     by_start version None p = by_ticket version p (ticket_told (deed_of e n x)) refl
 
+    same_load : (at : ℕ × ℕ) → version_told (deed_of e n x) ≡ Some at → version_told (deed_of f m y) ≡ Some at → load (deed_of e n x) ≡ load (deed_of f m y)
+    same_load at p q =
+        load_is valid v n x e at a p ∙ ap (λ (w : View). load_by v.phase (length v.held) (length w.held)) same ∙ sym (load_is valid v m y f at b q)
+
     by_version : (o : Option (ℕ × ℕ)) → version_told (deed_of e n x) ≡ o → plain (deed_of e n x) ≡ plain (deed_of f m y)
-    by_version (Some at) p = version_is e n x at p ∙ sym (version_is f m y at (sym (same_version v e f n m x y same) ∙ p))
+    by_version (Some at) p =
+        let q = sym (same_version v e f n m x y same) ∙ p in
+        version_is e n x at p ∙ ap (λ (k : ℕ). loading k at) (same_load at p q) ∙ sym (version_is f m y at q)
     by_version None p = by_start p (start_told (deed_of e n x)) refl
 
     -- the two events are told alike

@@ -51,8 +51,9 @@ pub fn no_deed()
     ensures other_thread { (thread : ℕ) (c d : Core) (seats later : _) (steps : List Step) (told : Step)
         → MakesOne {M = Machine Objects ScriptBody} of_objects.valid heard_by thread c seats (Some steps) d later (Some (steps ++ told ∷ []))
         → (told.thread ≡ thread → ⊥) → ⊥ }
-    // Another deed than that of the event by which the words were changed, but for which load of a version it was: another part, word, value,
-    // version, clock, ticket or decision, and a deed of another kind.
+    // Another deed than that of the event by which the words were changed: one of another kind, or of another part, word, value, version,
+    // clock, ticket or decision. Where a part was found locked or with too late a ticket, and nothing came of it, the definitions do not tell an
+    // open from a recheck, a test or a lock.
     ensures other_deed { (thread : ℕ) (c d : Core) (seats later : _) (steps : List Step) (told : Step)
         (m : MakesOne {M = Machine Objects ScriptBody} of_objects.valid heard_by thread c seats (Some steps) d later (Some (steps ++ told ∷ [])))
         → (plain told.deed ≡ plain (made m.steps.event c) → ⊥) → ⊥ }

@@ -73,9 +73,9 @@ no_earlier a b thread position less may =
     elim may [
       | inl earlier ↦ omega (arith, thread, earlier)
       | inr others ↦ elim others [
-          | inl here ↦ let earlier : a.place.1 < b.place.1 = here.1 in omega (arith, position, earlier)
-          | inr same ↦ let fewer = less same.0 in let more : known_at_end a ≤ b.seen = same.1 in omega (arith, fewer, more)
-        ]
+        | inl here ↦ let earlier : a.place.1 < b.place.1 = here.1 in omega (arith, position, earlier)
+        | inr same ↦ let fewer = less same.0 in let more : known_at_end a ≤ b.seen = same.1 in omega (arith, fewer, more)
+      ]
     ]
 
 -- the transaction that adds 1 to the first box asks nothing of the second one
@@ -83,14 +83,14 @@ not_asked : (script : Script) (d : Declaration) → Some adding ≡ Some script 
     → HasAsked d.number (meaning_of script) (heard (pos 0)) → ⊥
 not_asked script d transaction declared asked =
     let here : HasAsked 1 (meaning_of adding) (heard (pos 0)) =
-        subst (λ (e : Declaration). HasAsked e.number (meaning_of adding) (heard (pos 0))) (sym (some_is _ d declared))
-        (subst (λ (s : Script). HasAsked d.number (meaning_of s) (heard (pos 0))) (sym (some_is adding script transaction)) asked) in
+    subst (λ (e : Declaration). HasAsked e.number (meaning_of adding) (heard (pos 0))) (sym (some_is _ d declared))
+    (subst (λ (s : Script). HasAsked d.number (meaning_of s) (heard (pos 0))) (sym (some_is adding script transaction)) asked) in
     elim here [
       | inl first ↦ let e : 0 ≡ 1 = first in omega (arith, e)
       | inr others ↦ elim others [
-          | inl second ↦ let e : 0 ≡ 1 = second in omega (arith, e)
-          | inr none ↦ absurd none
-        ]
+        | inl second ↦ let e : 0 ≡ 1 = second in omega (arith, e)
+        | inr none ↦ absurd none
+      ]
     ]
 
 -- the first writer of the two boxes updates the second one alone
@@ -107,19 +107,19 @@ no_touch t =
     elim t.does [
       | inl need ↦ absurd cc
       | inr others ↦ elim others [
-          | inl seen ↦ let none : seen.1.0 < 0 = seen.1.1 in omega (arith, none)
-          | inr updated ↦
-              let within : updated.0 < 1 = updated.1 in let first : updated.0 ≡ 0 = omega (arith, within) in
-              let same : 0 ≡ 1 = subst (λ (k : ℕ). slice_index_or (0 ∷ []) k 1 ≡ 1) first updated.2 in omega (arith, same)
-        ]
+        | inl seen ↦ let none : seen.1.0 < 0 = seen.1.1 in omega (arith, none)
+        | inr updated ↦
+            let within : updated.0 < 1 = updated.1 in let first : updated.0 ≡ 0 = omega (arith, within) in
+            let same : 0 ≡ 1 = subst (λ (k : ℕ). slice_index_or (0 ∷ []) k 1 ≡ 1) first updated.2 in omega (arith, same)
+      ]
     ]
 
 untouched : (script : Script) (d : Declaration) → Some (setting_place 0) ≡ Some script → declared_as (codes "a") places_file.declarations ≡ Some d
     → IsPartTouched (updating_by means) places_file script (Done ∷ []) (part_number places_file.declarations d 1) → ⊥
 untouched script d transaction declared touched =
     let here : IsPartTouched (updating_by means) places_file (setting_place 0) (Done ∷ []) 1 =
-        subst (λ (e : Declaration). IsPartTouched (updating_by means) places_file (setting_place 0) (Done ∷ []) (part_number places_file.declarations e 1)) (sym (some_is _ d declared))
-        (subst (λ (s : Script). IsPartTouched (updating_by means) places_file s (Done ∷ []) (part_number places_file.declarations d 1)) (sym (some_is _ script transaction)) touched) in
+    subst (λ (e : Declaration). IsPartTouched (updating_by means) places_file (setting_place 0) (Done ∷ []) (part_number places_file.declarations e 1)) (sym (some_is _ d declared))
+    (subst (λ (s : Script). IsPartTouched (updating_by means) places_file s (Done ∷ []) (part_number places_file.declarations d 1)) (sym (some_is _ script transaction)) touched) in
     elim here [
       | inl set ↦ no_touch set
       | inr none ↦ absurd none
