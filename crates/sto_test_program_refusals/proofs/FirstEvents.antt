@@ -21,7 +21,7 @@ not_drawn : (p : Phase) → p ≡ Idle → IsDrawn p → ⊥
 not_drawn p idle drawn = let e : Idle ≡ Drawn drawn.0 = sym idle ∙ drawn.1 in absurd cc
 
 -- an idle pass may only start
-is_start : (valid : Validity) (e : Event) (v : View) → v.phase ≡ Idle → Allowed valid e v → e ≡ Start
+pub is_start : (valid : Validity) (e : Event) (v : View) → v.phase ≡ Idle → Allowed valid e v → e ≡ Start
 is_start valid Start v idle may = refl
 is_start valid (Open p) v idle may = absurd (not_reading v.phase idle may.0)
 is_start valid (Word p i) v idle may = absurd (subst (MayRead v p) idle may.0)

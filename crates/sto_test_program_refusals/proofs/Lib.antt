@@ -12,3 +12,6 @@ pub mod Feeds
 pub mod Findings
 pub mod Scheduled
 pub mod Questions
+pub mod Deeds
+pub mod PlainDeeds
+pub mod MadeDeeds

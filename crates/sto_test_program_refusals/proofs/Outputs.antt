@@ -2,9 +2,11 @@
 use Rattle.std.specs.Fmt.{digits}
 use Rattle.std.specs.Int.{int_wrap}
 use Rattle.std.specs.List.{flat_map, enumerate_from}
-use Rattle.std.proofs.Common.{◌≡◌, ◌≤◌, ◌<◌, ℕ, List, [], length, Bool, true, false, Option, None, Some, Ok, refl, sym, ap, ◌∙◌, subst, arith}
+use Rattle.std.proofs.Common.{◌≡◌, ◌≤◌, ◌<◌, ℕ, List, [], length, Bool, true, false, Option, None, Some, Ok, Err, refl, sym, ap, ◌∙◌, subst, arith}
 use Rattle.sto_lang.specs.Files.{file_of}
 use Rattle.sto_lang.specs.Scripts.{File}
+use Rattle.sto_lang.specs.Drafts.{transaction_count}
+use Rattle.sto_lang.specs.declared.fault.ScriptFault.{ScriptFault}
 use Rattle.sto_write.specs.Texts.{text_of, upgraded}
 use Rattle.sto_report_spec.specs.Lawful.{IsLawful, IsLawfulJson}
 use Rattle.sto_report_spec.specs.declared.form.ReportForm.TheVariants.{Text}
@@ -22,7 +24,7 @@ use Rattle.sto_run_orders.specs.Texts as orders
 use Rattle.sto_args.specs.declared.command.Asked.{Asked}
 use Rattle.sto_args.specs.declared.command.Asked.TheVariants.{Where, Never}
 use Rattle.sto_args.specs.declared.command.By.{By}
-use Rattle.sto_args.specs.declared.command.Command.TheVariants.{Run, Step, Explore, Schedules, Upgrade, Gen}
+use Rattle.sto_args.specs.declared.command.Command.TheVariants.{Run, Step, Trace, Draw, Explore, Schedules, Upgrade, Gen}
 use Rattle.sto_console.specs.declared.refusal.InputFault.{InputFault}
 use Rattle.sto_console.specs.declared.refusal.InputFault.TheVariants.{Script, NoReport, LongTrace, LongRun, ManySchedules, ManyStates, Schedule, Question}
 use Rattle.sto_console.specs.Outcomes.{IsDone, IsFaulty}
@@ -32,6 +34,7 @@ use Rattle.sto_cli.specs.declared.told.Answer.{Answer}
 use Rattle.sto_cli.specs.declared.told.Answer.TheVariants.{Done}
 use Rattle.sto_cli.specs.Orders.{IsTold}
 use Rattle.sto_cli.specs.Outputs.{IsOutput}
+use Rattle.sto_cli.specs.Traces.{most_traced, IsTraceable}
 use Rattle.sto_cli.specs.Programs.{program}
 use Rattle.sto_test_premises.specs.Adding.{script, file}
 use Rattle.sto_test_premises.proofs.Adding.{reads_file}
@@ -111,6 +114,28 @@ told_nothing false f outcomes e = no_front (none_behind (flat_map (outcome_text 
 pub schedules_nothing : (switches tries : ℕ) (json : Bool) (bytes : List ℕ) → IsOutput (Schedules switches tries json) bytes [] → ⊥
 schedules_nothing switches tries json bytes o = told_nothing json o.0 o.2.outcomes o.2.told
 
+-- nothing is printed of a script with more transactions than may be traced
+few_traced : (bytes : List ℕ) (f g : File) → file_of bytes ≡ Ok f → most_traced < transaction_count f.threads → IsTraceable None bytes g → ⊥
+few_traced bytes f g reads beyond traceable =
+    let few : transaction_count f.threads ≤ most_traced = subst (λ (h : File). transaction_count h.threads ≤ most_traced) (scheduled_as bytes f g reads traceable.0) traceable.1 in
+    omega (arith, few, beyond)
+
+pub schedules_beyond : (switches tries : ℕ) (json : Bool) (bytes text : List ℕ) (f : File) → file_of bytes ≡ Ok f → most_traced < transaction_count f.threads
+    → IsOutput (Schedules switches tries json) bytes text → ⊥
+schedules_beyond switches tries json bytes text f reads beyond o = few_traced bytes f o.0 reads beyond o.1
+
+pub trace_beyond : (tries : ℕ) (json : Bool) (bytes text : List ℕ) (f : File) → file_of bytes ≡ Ok f → most_traced < transaction_count f.threads
+    → IsOutput (Trace tries json None) bytes text → ⊥
+trace_beyond tries json bytes text f reads beyond o = few_traced bytes f o.0 reads beyond o.1
+
+pub draw_beyond : (tries : ℕ) (bytes text : List ℕ) (f : File) → file_of bytes ≡ Ok f → most_traced < transaction_count f.threads
+    → IsOutput (Draw tries None) bytes text → ⊥
+draw_beyond tries bytes text f reads beyond o = few_traced bytes f o.0 reads beyond o.1
+
+pub schedules_no_script : (switches tries : ℕ) (json : Bool) (bytes text : List ℕ) (fault : ScriptFault) → file_of bytes ≡ Err fault
+    → IsOutput (Schedules switches tries json) bytes text → ⊥
+schedules_no_script switches tries json bytes text fault none o = let e = sym none ∙ o.1.0.reads in absurd cc
+
 -- so it is with what all orders lead to
 told_no_orders : (json : Bool) (f : File) (reports : List OrderReport) → [] ≡ reports_in json f reports → ⊥
 told_no_orders true f reports e = no_front e
@@ -142,6 +167,10 @@ explore_beyond by states json asked bytes text f reads beyond o =
 pub upgrade_same : IsOutput Upgrade script script → ⊥
 unfolding digits int_wrap
 upgrade_same o = differ script (text_of (upgraded file)) 0 98 115 refl refl (λ e. omega (arith, e)) (o.2 ∙ ap (λ (f : File). text_of (upgraded f)) (read_as o.0 o.1))
+
+pub upgrade_other : (bytes text other : List ℕ) → IsOutput Upgrade bytes text → IsOutput Upgrade bytes other → (other ≡ text → ⊥) → ⊥
+upgrade_other bytes text other o p apart =
+    apart (p.2 ∙ ap (λ (f : File). text_of (upgraded f)) (one_file bytes p.0 o.0 p.1 o.1) ∙ sym o.2)
 
 pub gen_nothing : (number : ℕ) (bytes : List ℕ) → IsOutput (Gen number) bytes [] → ⊥
 gen_nothing number bytes o = no_front o.0

@@ -5,7 +5,7 @@
 //! | `sto` | what `sto` does not print or tell |
 //! | `feed` | what `feed` does not print |
 //! | `check` | what `check` does not find |
-//! | `steps` | runs that are none |
+//! | `steps` | runs that are none, and deeds that are not those of an event |
 #![tactic(auto)]
 
 mod check;
@@ -15,5 +15,5 @@ mod sto;
 
 pub use check::not_found;
 pub use feed::not_fed;
-pub use steps::no_run;
+pub use steps::{no_deed, no_run};
 pub use sto::{not_asked, not_ended, not_generated, not_run, not_scheduled, not_stepped};

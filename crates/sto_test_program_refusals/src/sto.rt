@@ -3,6 +3,8 @@ ghost use Rattle.std.specs.Prelude.{◌≡◌, ◌<◌, ℕ, List, [], ◌∷◌
 ghost use Rattle.sto_lang.specs.Files.{file_of};
 ghost use Rattle.sto_lang.specs.Scripts.{File};
 ghost use Rattle.sto_lang.specs.declared.fault.FaultKind.{FaultKind};
+ghost use Rattle.sto_lang.specs.declared.fault.ScriptFault.{ScriptFault};
+ghost use Rattle.sto_lang.specs.Drafts.{transaction_count};
 ghost use Rattle.sto_orders.specs.Causes.{least_told};
 ghost use Rattle.sto_args.specs.declared.command.Command.{Command};
 ghost use Rattle.sto_args.specs.declared.command.Command.TheVariants.{Run, Step, Trace, Draw, Explore, Schedules, Upgrade, Gen, Bench};
@@ -30,6 +32,7 @@ ghost use Rattle.sto_draw.specs.Drawn.{IsPicture};
 ghost use Rattle.sto_cli.specs.Outputs.{IsOutput};
 ghost use Rattle.sto_cli.specs.declared.told.Answer.TheVariants.{Done, Found};
 ghost use Rattle.sto_cli.specs.Orders.{IsExplored};
+ghost use Rattle.sto_cli.specs.Traces.{most_traced};
 ghost use Rattle.sto_cli.specs.Programs.{program, answer_status};
 ghost use Rattle.sto_test_premises.specs.Adding.{script};
 ghost use Rattle.sto_test_refusals.specs.Texts.{right, exchanged, left_out, other_reply, other_part, other_writer, other_rows, json_left_out, json_other_reply};
@@ -72,6 +75,15 @@ pub fn not_stepped()
     ensures explore_beyond { (by : By) (states : ℕ) (json : Bool) (asked : Option Asked) (bytes text : List ℕ) (f : File)
         → file_of bytes ≡ Ok f → states < least_told f.threads → IsOutput (Explore by states json asked) bytes text → ⊥ }
     ensures schedules_nothing { (switches tries : ℕ) (json : Bool) (bytes : List ℕ) → IsOutput (Schedules switches tries json) bytes [] → ⊥ }
+    // Anything of a script with too many transactions, or of bytes that are none.
+    ensures schedules_beyond { (switches tries : ℕ) (json : Bool) (bytes text : List ℕ) (f : File)
+        → file_of bytes ≡ Ok f → most_traced < transaction_count f.threads → IsOutput (Schedules switches tries json) bytes text → ⊥ }
+    ensures trace_beyond { (tries : ℕ) (json : Bool) (bytes text : List ℕ) (f : File)
+        → file_of bytes ≡ Ok f → most_traced < transaction_count f.threads → IsOutput (Trace tries json None) bytes text → ⊥ }
+    ensures draw_beyond { (tries : ℕ) (bytes text : List ℕ) (f : File)
+        → file_of bytes ≡ Ok f → most_traced < transaction_count f.threads → IsOutput (Draw tries None) bytes text → ⊥ }
+    ensures schedules_no_script { (switches tries : ℕ) (json : Bool) (bytes text : List ℕ) (fault : ScriptFault)
+        → file_of bytes ≡ Err fault → IsOutput (Schedules switches tries json) bytes text → ⊥ }
     // A picture of two threads without an event.
     ensures no_event { (text : List ℕ) (p : IsPicture 64 lost_update_file text) → p.steps ≡ [] → ⊥ }
     // That a run of two threads has too many events, or any other fault.
@@ -125,6 +137,8 @@ pub fn not_asked()
 pub fn not_generated()
     // A script of version 1 as it is.
     ensures upgrade_same { IsOutput Upgrade script script → ⊥ }
+    // Two texts for one script.
+    ensures upgrade_other { (bytes text other : List ℕ) → IsOutput Upgrade bytes text → IsOutput Upgrade bytes other → (other ≡ text → ⊥) → ⊥ }
     // Nothing, and another script than at another time.
     ensures gen_nothing { (number : ℕ) (bytes : List ℕ) → IsOutput (Gen number) bytes [] → ⊥ }
     ensures gen_other { (number : ℕ) (bytes others text other : List ℕ) → IsOutput (Gen number) bytes text → IsOutput (Gen number) others other

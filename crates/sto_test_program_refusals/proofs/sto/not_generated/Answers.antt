@@ -1,4 +1,4 @@
-use Rattle.sto_test_program_refusals.proofs.Outputs.{upgrade_same, gen_nothing, gen_other}
+use Rattle.sto_test_program_refusals.proofs.Outputs.{upgrade_same, upgrade_other, gen_nothing, gen_other}
 use Rattle.sto_test_program_refusals.proofs.Summaries.{not_one_less, not_one_left_out}
 use Rattle.sto_test_program_refusals.proofs.sto.not_generated.Goals as goal
 
@@ -16,3 +16,6 @@ returns-clause-one_less c = not_one_less
 
 pub returns-clause-one_left_out : goal.returns-clause-one_left_out
 returns-clause-one_left_out c = not_one_left_out
+
+pub returns-clause-upgrade_other : goal.returns-clause-upgrade_other
+returns-clause-upgrade_other c = upgrade_other

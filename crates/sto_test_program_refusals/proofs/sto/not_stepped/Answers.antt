@@ -2,7 +2,7 @@ use Rattle.sto_run.specs.Meanings.{updating_by}
 use Rattle.sto_run.specs.Stores.{means}
 use Rattle.sto_test_refusals.specs.Texts.{left_out, other_reply}
 use Rattle.sto_test_refusals.proofs.Unlawful.{left_out_is_none, other_reply_is_none}
-use Rattle.sto_test_program_refusals.proofs.Outputs.{step_lawful, step_nothing, explore_nothing, explore_beyond, schedules_nothing}
+use Rattle.sto_test_program_refusals.proofs.Outputs.{step_lawful, step_nothing, explore_nothing, explore_beyond, schedules_nothing, schedules_beyond, trace_beyond, draw_beyond, schedules_no_script}
 use Rattle.sto_test_program_refusals.proofs.Faults.{trace_fault, draw_fault}
 use Rattle.sto_test_program_refusals.proofs.Traces.{trace_nothing, no_event_drawn}
 use Rattle.sto_test_program_refusals.proofs.sto.not_stepped.Goals as goal
@@ -36,3 +36,15 @@ returns-clause-trace_fault c = trace_fault
 
 pub returns-clause-draw_fault : goal.returns-clause-draw_fault
 returns-clause-draw_fault c = draw_fault
+
+pub returns-clause-schedules_beyond : goal.returns-clause-schedules_beyond
+returns-clause-schedules_beyond c = schedules_beyond
+
+pub returns-clause-trace_beyond : goal.returns-clause-trace_beyond
+returns-clause-trace_beyond c = trace_beyond
+
+pub returns-clause-draw_beyond : goal.returns-clause-draw_beyond
+returns-clause-draw_beyond c = draw_beyond
+
+pub returns-clause-schedules_no_script : goal.returns-clause-schedules_no_script
+returns-clause-schedules_no_script c = schedules_no_script
