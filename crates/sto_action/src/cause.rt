@@ -7,7 +7,7 @@ ghost use Rattle.sto_action.specs.Causes.{IsCauseOf, NamesPart};
 use sto_attempt::Verdict;
 use sto_type::TxType;
 
-/// Why an attempt was aborted: how it found an object that its code had asked.
+/// Why an attempt was aborted: how it found an object, by the number of the object.
 #[derive(Clone, Copy, PartialEq, Eq, Debug)]
 pub enum AbortCause {
     /// Another transaction had locked a part of this object.

@@ -24,7 +24,10 @@ impl fmt::Display for TransactionError {
         match self {
             TransactionError::Busy { tries, last } => {
                 if *tries == 1 {
-                    write!(f, "busy: its only try met another transaction; it found {last}")
+                    write!(
+                        f,
+                        "busy: its only try met another transaction; it found {last}"
+                    )
                 } else {
                     write!(
                         f,

@@ -1,11 +1,12 @@
 -- Aborted attempts saw more and took no effect; the last one tells what the transaction led to.
-use Rattle.std.proofs.Common.{Result, ◌-◌, sym, ◌∙◌, subst, arith}
-use Rattle.std.specs.Prelude.{Ok}
+use Rattle.std.proofs.Common.{◌≡◌, ℕ, Result, ◌-◌, refl, sym, ◌∙◌, subst, arith}
+use Rattle.std.specs.Prelude.{Ok, Option, MatchOption}
+use Rattle.sto_action.specs.declared.cause.AbortCause.{AbortCause}
 use Rattle.sto_action.specs.declared.tx.Stop.{Stop}
 use Rattle.sto_action.specs.declared.outcome.Attempted.{Attempted}
 use Rattle.sto_action.specs.declared.outcome.Done.{Done}
 use Rattle.sto_action.specs.declared.outcome.TransactionError.{TransactionError}
-use Rattle.sto_action.specs.Atomic.{HasLed, HasTried, HasSaid}
+use Rattle.sto_action.specs.Atomic.{HasLed, HasTried, HasSaid, HaveAbortedBy}
 use Rattle.sto_history.proofs.Events.{grows_on}
 use Rattle.sto_action.proofs.Led.{atomic_since, aborted_more, aborted_by, said_led}
 use Rattle.sto_action.proofs.atomic.atomically.Goals as goal
@@ -27,6 +28,15 @@ returns-in-Ok-Said-clause-led g c =
 
 pub returns-in-Err-clause-grows : goal.returns-in-Err-clause-grows
 returns-in-Err-clause-grows g c = grows_on _ _ _ c.loop-aborted.invariant.grows c.attempt.ensures.grows
+
+pub returns-clause-led : goal.returns-clause-led
+returns-clause-led g c =
+    let m = g.T.TxType.meaning c.args.ty.now in
+    let u = g.C.Cells.view c.args.cells.now in
+    let v = g.C.Cells.view c.loop-aborted.cells in
+    let made = subst (λ (o : Option AbortCause). MatchOption o (c.loop-aborted.aborted ≡ 0) (HaveAbortedBy m u v c.loop-aborted.aborted)) c.in-Some.is c.loop-aborted.invariant.last in
+    let all : c.loop-aborted.aborted ≡ c.args.tries = omega (arith, c.loop-aborted.auto.aborted-end, c.loop-aborted-test.false) in
+    (refl, subst (λ (n : ℕ). HaveAbortedBy m u v n c.in-Some.last) all made)
 
 pub loop-aborted-preserved : goal.loop-aborted-preserved
 loop-aborted-preserved g c =

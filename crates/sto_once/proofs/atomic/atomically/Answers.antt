@@ -1,10 +1,11 @@
 -- Aborted attempts saw more and took no effect; the last one tells what the transaction led to.
-use Rattle.std.proofs.Common.{Result, ◌-◌, sym, ◌∙◌, subst, arith}
-use Rattle.std.specs.Prelude.{Ok, IfOk}
+use Rattle.std.proofs.Common.{◌≡◌, ℕ, Result, ◌-◌, refl, sym, ◌∙◌, subst, arith}
+use Rattle.std.specs.Prelude.{Ok, IfOk, Option, MatchOption}
 use Rattle.sto_part.specs.declared.NoMemory.{NoMemory}
 use Rattle.sto_once.specs.declared.code.Halt.{Halt}
 use Rattle.sto_action.specs.declared.outcome.Attempted.{Attempted}
-use Rattle.sto_action.specs.Atomic.{HasSaid}
+use Rattle.sto_action.specs.declared.cause.AbortCause.{AbortCause}
+use Rattle.sto_action.specs.Atomic.{HasSaid, HaveAbortedBy}
 use Rattle.sto_history.proofs.Events.{grows_on}
 use Rattle.sto_action.proofs.Led.{aborted_more, aborted_by}
 use Rattle.sto_once.specs.Attempts.{Says}
@@ -41,6 +42,15 @@ returns-in-Ok-Said-clause-alone g c one = undisturbed_by c.in-Ok-Said.said c.tol
 
 pub returns-in-Err-clause-grows : goal.returns-in-Err-clause-grows
 returns-in-Err-clause-grows g c = grows_on _ _ _ c.loop-aborted.invariant.grows c.attempt-back.ensures.tried.grows
+
+pub returns-clause-led : goal.returns-clause-led
+returns-clause-led g c most large =
+    let m = g.T.TxType.meaning c.args.ty.now in
+    let u = g.C.Cells.view c.args.cells in
+    let v = g.C.Cells.view c.loop-aborted.pass in
+    let made = subst (λ (o : Option AbortCause). MatchOption o (c.loop-aborted.aborted ≡ 0) (HaveAbortedBy m u v c.loop-aborted.aborted)) c.in-Some.is c.loop-aborted.invariant.last in
+    let all : c.loop-aborted.aborted ≡ c.args.tries = omega (arith, c.loop-aborted.auto.aborted-end, c.loop-aborted-test.false) in
+    (refl, subst (λ (n : ℕ). HaveAbortedBy m u v n c.in-Some.last) all made)
 
 pub loop-aborted-preserved : goal.loop-aborted-preserved
 loop-aborted-preserved g c =
