@@ -1,5 +1,5 @@
 -- What a transaction led to, by its attempts.
-use Rattle.std.proofs.Common.{ℕ, ◌+◌, List, [], ◌∷◌, ◌++◌, length, length-append, Result, Ok, Err, refl, ◌∙◌, subst, arith}
+use Rattle.std.proofs.Common.{◌≡◌, ℕ, ◌+◌, List, [], ◌∷◌, ◌++◌, length, length-append, Result, Ok, Err, refl, sym, ap, ◌∙◌, append_assoc, subst, arith}
 use Rattle.sto_model.specs.declared.shape.Shape.{Shape}
 use Rattle.sto_type.specs.Meaning.{Meaning}
 use Rattle.sto_core.specs.declared.view.View.{View}
@@ -10,19 +10,21 @@ use Rattle.sto_action.specs.declared.short_reply.ShortReply.{ShortReply}
 use Rattle.sto_action.specs.declared.tx.Stop.{Stop}
 use Rattle.sto_action.specs.declared.tx.Stop.TheVariants as stops
 use Rattle.sto_action.specs.Progs.{Prog, Runs}
-use Rattle.sto_action.specs.Atomic.{EachFound, TakesNoEffect, HaveAborted, IsAtomic, HasLed, IsUndisturbed, told_by}
+use Rattle.sto_action.specs.declared.cause.AbortCause.{AbortCause}
+use Rattle.sto_action.specs.Atomic.{EachFound, TakesNoEffect, HaveAborted, HaveAbortedBy, IsAtomic, HasLed, IsUndisturbed, told_by}
 use Rattle.sto_action.proofs.Tried.{seen_later}
 
 -- the attempts before it saw more and took no effect
-pub atomic_since : {E A : Type 0} (m : Meaning) (u v w : View) (shapes : List Shape) (most : ℕ) (p : Prog E A) (says : List ShortReply → Type 0) → Grows u v → TakesNoEffect u v
+pub atomic_since : {E A : Type 0} (m : Meaning) (u v w : View) (many : ℕ) (shapes : List Shape) (most : ℕ) (p : Prog E A) (says : List ShortReply → Type 0) → Grows u v → HaveAborted u v many
     → IsAtomic m v w shapes most p says → IsAtomic m u w shapes most p says
-atomic_since m u v w shapes most p says g none h = record {
+atomic_since m u v w many shapes most p says g made h = record {
   replies = h.replies;
   verdict = h.verdict;
   ended = h.ended;
   told = h.told;
   since = λ n k. h.since n (seen_later u v g n k);
-  entries = λ t. (let a = h.entries t in let b = none t in omega (arith, a, b));
+  entries = λ t. (let a = h.entries t in let b = made.none t in omega (arith, a, b));
+  starts = (let a = h.starts in let b = made.starts in omega (arith, a, b));
   said = h.said;
 }
 
@@ -49,6 +51,18 @@ aborted_more u v w some more g h k = record {
   starts = (let a = h.starts in let b = k.starts in omega (arith, a, b));
   found = each_more w (u.starts + 1) h.verdicts k.verdicts (each_later v w (u.starts + 1) h.verdicts g h.found)
       (subst (λ (n : ℕ). EachFound w n k.verdicts) (let a = h.starts in let b = h.all in omega (arith, a, b)) k.found);
+}
+
+-- and the last one of these by a cause
+pub aborted_by : (m : Meaning) (u v w : View) (some more : ℕ) (cause : AbortCause) → Grows v w → HaveAborted u v some → HaveAbortedBy m v w more cause → HaveAbortedBy m u w (some + more) cause
+unfolding aborted_more
+aborted_by m u v w some more cause g h k = record {
+  aborted = aborted_more u v w some more g h k.aborted;
+  before = h.verdicts ++ k.before;
+  last = k.last;
+  ends = ap (λ (l : List Verdict). h.verdicts ++ l) k.ends ∙ sym (append_assoc h.verdicts k.before (k.last ∷ []));
+  is = k.is;
+  found = k.found;
 }
 
 pub said_led : {E A : Type 0} (m : Meaning) (v w : View) (tries left : ℕ) (shapes : List Shape) (most : ℕ) (p : Prog E A) (r : Result A (Stop E))

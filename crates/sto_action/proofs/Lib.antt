@@ -1,4 +1,5 @@
 pub mod Counts
+pub mod Causes
 pub mod Tried
 pub mod Led
 pub mod Alone

@@ -1,7 +1,7 @@
 -- What one attempt led to, by its record.
 use Rattle.std.specs.List.{All}
-use Rattle.std.proofs.Common.{◌≡◌, ◌<◌, ◌≤◌, ◌+◌, ℕ, List, [], ◌∷◌, ◌++◌, map, length, Bool, true, false, refl, sym, ap, ◌∙◌, subst, arith, inl, inr}
-use Rattle.std.specs.Prelude.{Option, Some, None, Result, Ok, MatchOption, IsSome}
+use Rattle.std.proofs.Common.{◌≡◌, ◌<◌, ◌≤◌, ◌+◌, ℕ, List, [], ◌∷◌, ◌++◌, map, length, length-append, Bool, true, false, refl, sym, ap, ◌∙◌, subst, arith, inl, inr}
+use Rattle.std.specs.Prelude.{Result, Ok}
 use Rattle.sto_part.specs.Listed.{Listed}
 use Rattle.std.proofs.lemmas.List.{map-append}
 use Rattle.std.proofs.lemmas.List.Elements.{All-weaker}
@@ -12,6 +12,7 @@ use Rattle.sto_type.specs.Meaning.{Meaning}
 use Rattle.sto_core.specs.declared.view.View.{View}
 use Rattle.sto_history.specs.Records.{TransactionPlace, Record as Told, is_abort, wrote_with, times_written}
 use Rattle.sto_history.specs.Counted.{InThreads, times_committed, aborted_times, finished_places}
+use Rattle.sto_history.specs.Told.{IsFound}
 use Rattle.sto_history.specs.Added.{IsAdded, IsKnown, Grows}
 use Rattle.sto_history.specs.Trying.{AreFound}
 use Rattle.sto_transaction.specs.declared.record.Record.{Record}
@@ -21,7 +22,12 @@ use Rattle.sto_action.specs.Shortened.{short_of}
 use Rattle.sto_action.specs.declared.short_reply.ShortReply.{ShortReply}
 use Rattle.sto_action.specs.declared.tx.Stop.{Stop}
 use Rattle.sto_action.specs.Progs.{Prog, next_within, Runs}
-use Rattle.sto_action.specs.Atomic.{HasSeen, TakesNoEffect, HaveAborted, IsAtomic, HasTried}
+use Rattle.sto_action.specs.declared.cause.AbortCause.{AbortCause}
+use Rattle.sto_action.specs.declared.outcome.Attempted.{Attempted}
+use Rattle.sto_action.specs.declared.outcome.Attempted.TheVariants.{Said, Aborted}
+use Rattle.sto_action.specs.Causes.{IsCauseOf}
+use Rattle.sto_action.specs.Atomic.{HasSeen, TakesNoEffect, HaveAbortedBy, IsAtomic, HasTried, IsTriedBy, HasSaid}
+use Rattle.sto_action.proofs.Causes.{cause_aborts}
 use Rattle.sto_action.proofs.Counts.{abort_wrote, all_aborted, all_before, last_wrote, some_aborted, none_before, last_item}
 
 seen_known : (v : View) (n : ℕ) → HasSeen v n → IsKnown v n
@@ -54,18 +60,32 @@ module _ (m : Meaning) (sizes : List ℕ) (passes : ℕ) (v w : View) (f : Behav
   pub aborted_none : is_abort (verdict x.verdict) ≡ true → TakesNoEffect v w
   aborted_none abort t = let e = last_entries t in let none = abort_wrote t (verdict x.verdict) abort in omega (arith, e, none)
 
+  -- it was begun
+  pub last_starts : v.starts < w.starts
+  last_starts = let s = ran.starts in let n = ap length new_is in let l = length-append (map plain left) (plain x ∷ []) in omega (arith, s, n, l)
+
   -- it is the only one
-  pub once_aborted : is_abort (verdict x.verdict) ≡ true → HaveAborted v w 1
-  once_aborted abort =
+  pub once_aborted : (cause : AbortCause) → IsCauseOf m (verdict x.verdict) cause → HaveAbortedBy m v w 1 cause
+  once_aborted cause is =
+      let abort = cause_aborts m (verdict x.verdict) cause is in
       let few : aborted_times place (map plain left ++ plain x ∷ []) ≤ 1 = subst (λ (l : List Told). aborted_times place l ≤ 1) new_is ran.added.few in
       let before = all_before place (plain x) (map plain left) placed (subst InThreads new_is ran.added.threads) in
       let one : ran.new ≡ plain x ∷ [] = new_is ∙ ap (λ (l : List Told). l ++ plain x ∷ []) (none_before place (plain x) abort (map plain left) placed before few) in
+      let starts : w.starts ≡ v.starts + 1 = ran.starts ∙ ap (λ (l : List Told). v.starts + length l) one in
+      let found : IsFound w (v.starts + 1) (verdict x.verdict) = (subst (AreFound w (v.starts + 1)) one ran.found).0 in
       record {
-        none = aborted_none abort;
-        verdicts = verdict x.verdict ∷ [];
-        all = refl;
-        starts = ran.starts ∙ ap (λ (l : List Told). v.starts + length l) one;
-        found = (abort, (subst (AreFound w (v.starts + 1)) one ran.found).0, tt);
+        aborted = record {
+          none = aborted_none abort;
+          verdicts = verdict x.verdict ∷ [];
+          all = refl;
+          starts = starts;
+          found = (abort, found, tt);
+        };
+        before = [];
+        last = verdict x.verdict;
+        ends = refl;
+        is = is;
+        found = subst (λ (n : ℕ). IsFound w n (verdict x.verdict)) (sym starts) found;
       }
 
   pub not_alone : is_abort (verdict x.verdict) ≡ true → passes ≡ 1 → ⊥
@@ -95,15 +115,16 @@ seen_later v w g n (inr (inr h)) = inr (inr (record { claim = h.claim; there = g
 
 pub record_atomic : {E A : Type 0} (m : Meaning) (v w : View) (shapes : List Shape) (most : ℕ) (p : Prog E A) (place : TransactionPlace) (x : Record) (says : List ShortReply → Type 0)
     → IsAdded m v w (λ rs. next_within shapes most p (map short_of rs)) place (plain x)
-    → ((t : ℕ) → times_committed t w.entries ≡ times_committed t v.entries + wrote_with t (verdict x.verdict)) → is_abort (verdict x.verdict) ≡ false → says (map short_of (map plain_reply x.replies.items))
+    → ((t : ℕ) → times_committed t w.entries ≡ times_committed t v.entries + wrote_with t (verdict x.verdict)) → v.starts < w.starts → is_abort (verdict x.verdict) ≡ false → says (map short_of (map plain_reply x.replies.items))
     → IsAtomic m v w shapes most p says
-record_atomic m v w shapes most p place x says added entries ended said = record {
+record_atomic m v w shapes most p place x says added entries starts ended said = record {
   replies = map plain_reply x.replies.items;
   verdict = verdict x.verdict;
   ended = ended;
   told = added.told;
   since = λ n h. added.since n (seen_known v n h);
   entries = entries;
+  starts = starts;
   said = said;
 }
 
@@ -120,19 +141,21 @@ same_run {E} {A} {K} does m sizes passes v w place before later ended c code s s
 
 -- what is so by the record that is told, where it is aborted and where it is not
 pub told_tried : {E A : Type 0} (m : Meaning) (sizes : List ℕ) (passes : ℕ) (v w : View) (shapes : List Shape) (most : ℕ) (p : Prog E A) (place : TransactionPlace) (left : List Record) (x : Record)
-    (rs : List Record) (ended : Bool) (said : Option (Result A (Stop E))) → rs ≡ left ++ x ∷ []
+    (rs : List Record) (ended : Bool) (tried : Attempted (Result A (Stop E))) → rs ≡ left ++ x ∷ []
     → HasRun m sizes 1 passes v w (λ rs. next_within shapes most p (map short_of rs)) place [] (map plain rs) ended
-    → MatchOption said (is_abort (verdict x.verdict) ≡ true) (λ said. (is_abort (verdict x.verdict) ≡ false) × Runs p (map short_of (map plain_reply x.replies.items)) said)
-    → HasTried m v w shapes most p (Ok said)
-told_tried m sizes passes v w shapes most p place left x rs ended None all ran h =
-    once_aborted m sizes passes v w (λ rs. next_within shapes most p (map short_of rs)) place left x rs ended all ran h
-told_tried m sizes passes v w shapes most p place left x rs ended (Some said) all ran h =
+    → IsTriedBy m (verdict x.verdict) (λ said. Runs p (map short_of (map plain_reply x.replies.items)) said) tried
+    → HasTried m v w shapes most p (Ok tried)
+told_tried m sizes passes v w shapes most p place left x rs ended (Aborted cause) all ran h =
+    once_aborted m sizes passes v w (λ rs. next_within shapes most p (map short_of rs)) place left x rs ended all ran cause h
+told_tried m sizes passes v w shapes most p place left x rs ended (Said said) all ran h =
     record_atomic m v w shapes most p place x (λ hs. Runs p hs said)
     (last_added m sizes passes v w (λ rs. next_within shapes most p (map short_of rs)) place left x rs ended all ran)
-    (last_entries m sizes passes v w (λ rs. next_within shapes most p (map short_of rs)) place left x rs ended all ran) h.0 h.1
+    (last_entries m sizes passes v w (λ rs. next_within shapes most p (map short_of rs)) place left x rs ended all ran)
+    (last_starts m sizes passes v w (λ rs. next_within shapes most p (map short_of rs)) place left x rs ended all ran) h.0 h.1
 
 pub told_alone : {E A : Type 0} (m : Meaning) (sizes : List ℕ) (passes : ℕ) (v w : View) (f : Behaviour) (place : TransactionPlace) (left : List Record) (x : Record)
-    (rs : List Record) (ended : Bool) (said : Option (Result A (Stop E))) (Q : Result A (Stop E) → Type 0) → rs ≡ left ++ x ∷ [] → HasRun m sizes 1 passes v w f place [] (map plain rs) ended
-    → MatchOption said (is_abort (verdict x.verdict) ≡ true) Q → passes ≡ 1 → IsSome said
-told_alone m sizes passes v w f place left x rs ended None Q all ran h one = absurd (not_alone m sizes passes v w f place left x rs ended all ran h one)
-told_alone m sizes passes v w f place left x rs ended (Some said) Q all ran h one = refl
+    (rs : List Record) (ended : Bool) (tried : Attempted (Result A (Stop E))) (Q : Result A (Stop E) → Type 0) → rs ≡ left ++ x ∷ [] → HasRun m sizes 1 passes v w f place [] (map plain rs) ended
+    → IsTriedBy m (verdict x.verdict) Q tried → passes ≡ 1 → HasSaid tried
+told_alone m sizes passes v w f place left x rs ended (Aborted cause) Q all ran h one =
+    not_alone m sizes passes v w f place left x rs ended all ran (cause_aborts m (verdict x.verdict) cause h) one
+told_alone m sizes passes v w f place left x rs ended (Said said) Q all ran h one = tt

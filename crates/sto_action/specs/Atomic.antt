@@ -1,5 +1,5 @@
 -- What a transaction that was run atomically tells of its value.
-use Rattle.std.specs.Prelude.{◌≡◌, ◌⊎◌, ◌≤◌, ◌<◌, ◌+◌, ℕ, List, [], ◌∷◌, length, map, true, false, Option, Some, None, Result, Ok, Err}
+use Rattle.std.specs.Prelude.{◌≡◌, ◌⊎◌, ◌≤◌, ◌<◌, ◌+◌, ℕ, List, [], ◌∷◌, ◌++◌, length, map, true, false, Result, Ok, Err}
 use Rattle.sto_part.specs.declared.NoMemory.{NoMemory}
 use Rattle.sto_model.specs.declared.shape.Shape.{Shape}
 use Rattle.sto_model.specs.PlainReplies.{PlainReply}
@@ -18,6 +18,10 @@ use Rattle.sto_action.specs.declared.short_reply.ShortReply.{ShortReply}
 use Rattle.sto_action.specs.declared.tx.Stop.{Stop}
 use Rattle.sto_action.specs.declared.tx.Stop.TheVariants as stops
 use Rattle.sto_action.specs.Progs.{Prog, next_within, Runs, IsGiven, IsCancelled, IsAsked}
+use Rattle.sto_action.specs.Causes.{IsCauseOf}
+use Rattle.sto_action.specs.declared.cause.AbortCause.{AbortCause}
+use Rattle.sto_action.specs.declared.outcome.Attempted.{Attempted}
+use Rattle.sto_action.specs.declared.outcome.Attempted.TheVariants.{Said, Aborted}
 use Rattle.sto_action.specs.declared.outcome.Done.{Done}
 use Rattle.sto_action.specs.declared.outcome.Done.TheVariants.{Gave, Cancelled}
 use Rattle.sto_action.specs.declared.outcome.TransactionError.{TransactionError}
@@ -52,13 +56,26 @@ pub record HaveAborted (v w : View) (many : ℕ) : Type 0 where
   pub starts : w.starts ≡ v.starts + many
   pub found : EachFound w (v.starts + 1) verdicts
 
+-- they were aborted, and the last one by this cause: its verdict names a part of that object, and it has its finding
+pub record HaveAbortedBy (m : Meaning) (v w : View) (many : ℕ) (cause : AbortCause) : Type 0 where
+  pub aborted : HaveAborted v w many
+  pub before : List Verdict
+  pub last : Verdict
+  pub ends : aborted.verdicts ≡ before ++ last ∷ []
+  pub is : IsCauseOf m last cause
+  pub found : IsFound w w.starts last
+
+-- of so many tries all were made and aborted, as many as are told, and the last one by the cause that is told
+abbrev pub IsBusy : Meaning → (v w : View) → (tries told : ℕ) → AbortCause → Type 0
+IsBusy m v w tries told cause = (told ≡ tries) × HaveAbortedBy m v w tries cause
+
 -- what code does next after each list of replies, on objects of these shapes, where it may ask so many calls
 abbrev pub steps_of : {E A : Type 0} → List Shape → ℕ → Prog E A → Behaviour
 steps_of shapes most p = λ rs. next_within shapes most p (map short_of rs)
 
 -- The code, run alone, hears these replies and then says this. It is run on all valid contents that have what the pass w looked at: for
 -- a writer those right before its ticket, for a reader those as of its number (`IsTold`). It stands after all that the pass had seen, and
--- is all that the pass committed from v to w
+-- is all that the pass committed from v to w. An attempt was begun for it
 pub record IsAtomic {E A : Type 0} (m : Meaning) (v w : View) (shapes : List Shape) (most : ℕ) (p : Prog E A) (says : List ShortReply → Type 0) : Type 0 where
   pub replies : List PlainReply
   pub verdict : Verdict
@@ -66,27 +83,38 @@ pub record IsAtomic {E A : Type 0} (m : Meaning) (v w : View) (shapes : List Sha
   pub told : IsTold m w (steps_of shapes most p) replies verdict
   pub since : (n : ℕ) → HasSeen v n → IsSince n verdict
   pub entries : (t : ℕ) → times_committed t w.entries ≡ times_committed t v.entries + wrote_with t verdict
+  pub starts : v.starts < w.starts
   pub said : says (map short_of replies)
 
--- what one attempt led to: the code said this at its end; or it was aborted, or memory was wanting
-abbrev pub HasTried : {E A : Type 0} → Meaning → (v w : View) → List Shape → ℕ → Prog E A → Result (Option (Result A (Stop E))) NoMemory → Type 0
-HasTried m v w shapes most p (Ok (Some said)) = IsAtomic m v w shapes most p (λ hs. Runs p hs said)
-HasTried m v w shapes most p (Ok None) = HaveAborted v w 1
+-- what one attempt led to: the code said this at its end; or it was aborted by this cause, or memory was wanting
+abbrev pub HasTried : {E A : Type 0} → Meaning → (v w : View) → List Shape → ℕ → Prog E A → Result (Attempted (Result A (Stop E))) NoMemory → Type 0
+HasTried m v w shapes most p (Ok (Said said)) = IsAtomic m v w shapes most p (λ hs. Runs p hs said)
+HasTried m v w shapes most p (Ok (Aborted cause)) = HaveAbortedBy m v w 1 cause
 HasTried m v w shapes most p (Err error) = TakesNoEffect v w
 
+-- by its verdict: it was not aborted, and the code said this; or it was aborted by this cause
+abbrev pub IsTriedBy : {S : Type 0} → Meaning → Verdict → (S → Type 0) → Attempted S → Type 0
+IsTriedBy m verdict says (Said said) = (is_abort verdict ≡ false) × says said
+IsTriedBy m verdict says (Aborted cause) = IsCauseOf m verdict cause
+
+-- it was not aborted
+abbrev pub HasSaid : {S : Type 0} → Attempted S → Type 0
+HasSaid (Said said) = Unit {0}
+HasSaid (Aborted cause) = ⊥
+
 -- what a transaction led to, which had so many tries and left so many tickets: all tries were made and aborted; or tries were made, fewer,
--- and none is left
+-- and no ticket is left
 abbrev pub HasLed : {E A : Type 0} → Meaning → (v w : View) → (tries left : ℕ) → List Shape → ℕ → Prog E A → Result (Done A E) TransactionError → Type 0
 HasLed m v w tries left shapes most p (Ok (Gave value)) = IsAtomic m v w shapes most p (λ hs. IsGiven p hs value)
 HasLed m v w tries left shapes most p (Ok (Cancelled reason)) = IsAtomic m v w shapes most p (λ hs. IsCancelled p hs reason)
 HasLed m v w tries left shapes most p (Err (Refused call)) = IsAtomic m v w shapes most p (λ hs. IsAsked p hs call)
-HasLed m v w tries left shapes most p (Err Busy) = HaveAborted v w tries
+HasLed m v w tries left shapes most p (Err (Busy told last)) = IsBusy m v w tries told last
 HasLed m v w tries left shapes most p (Err Worn) = (left ≡ 0) × ((many : ℕ) × (many < tries) × HaveAborted v w many)
 HasLed m v w tries left shapes most p (Err WantsMemory) = TakesNoEffect v w
 
 -- others were not in its way
 abbrev pub IsUndisturbed : {E A : Type 0} → Result (Done A E) TransactionError → Type 0
-IsUndisturbed (Err Busy) = ⊥
+IsUndisturbed (Err (Busy tries last)) = ⊥
 IsUndisturbed r = Unit {0}
 
 -- what a transaction gave by what its code said at its end

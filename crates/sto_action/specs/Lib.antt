@@ -1,3 +1,4 @@
+pub mod Causes
 pub mod Atomic
 pub mod Shortened
 pub mod Progs

@@ -1,5 +1,5 @@
 //! Code that is run until an attempt is not aborted.
-ghost use Rattle.std.specs.Prelude.{◌≡◌, ◌≤◌};
+ghost use Rattle.std.specs.Prelude.{◌≡◌, ◌<◌, ◌≤◌};
 ghost use Rattle.sto_model.specs.declared.call.Call.{Call};
 ghost use Rattle.sto_history.specs.Added.{Grows};
 ghost use Rattle.sto_transaction.specs.Resting.{IsAtRest};
@@ -9,7 +9,7 @@ ghost use Rattle.sto_action.specs.Atomic.{HasLed, IsUndisturbed, told_by};
 use crate::attempt::attempt;
 use crate::code::Action;
 use crate::memory::ActionLists;
-use crate::outcome::{Done, TransactionError};
+use crate::outcome::{Attempted, Done, TransactionError};
 use crate::tx::Stop;
 use std::alloc::Global;
 use sto_core::Cells;
@@ -37,14 +37,16 @@ where
     requires takes { (call : Call) → IsTakenCall shapes.now.items call → (T.meaning ty.now).takes call }
     requires rests { IsAtRest (T.meaning ty.now) (T.sizes ty.now) (C.view cells.old) }
     requires left { left.old ≤ (C.view cells.old).draws }
+    requires some { 0 < tries }
     ensures rests { IsAtRest (T.meaning ty.now) (T.sizes ty.now) (C.view cells.new) }
     ensures left { left.new ≤ (C.view cells.new).draws }
     ensures grows { Grows (C.view cells.old) (C.view cells.new) }
     ensures led { HasLed (T.meaning ty.now) (C.view cells.old) (C.view cells.new) tries left.new shapes.now.items (K.most code.now)
         (K.does code.now) result }
-    ensures alone { C.passes cells.old ≡ 1 → 1 ≤ tries → IsUndisturbed result }
+    ensures alone { C.passes cells.old ≡ 1 → IsUndisturbed result }
     ensures same { C.same cells.old cells.new }
 {
+    let mut last = None;
     for aborted in 0..tries {
         if aborted > 0 {
             watch.before_retry();
@@ -54,12 +56,15 @@ where
         }
         *left -= 1;
         match attempt(alloc, ty, shapes, cells, watch, memory, code) {
-            Ok(Some(said)) => return told(said),
-            Ok(None) => {}
+            Ok(Attempted::Said(said)) => return told(said),
+            Ok(Attempted::Aborted(cause)) => last = Some(cause),
             Err(NoMemory) => return Err(TransactionError::NoMemory),
         }
     }
-    Err(TransactionError::Busy)
+    match last {
+        Some(last) => Err(TransactionError::Busy { tries, last }),
+        None => unreachable!(),
+    }
 }
 
 // What a transaction gave by what its code said at its end.

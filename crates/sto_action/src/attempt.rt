@@ -1,28 +1,29 @@
 //! One attempt of code.
-ghost use Rattle.std.specs.Prelude.{◌≡◌, ◌≤◌, ◌+◌, map, true, false, IfOk, IsSome, MatchOption};
+ghost use Rattle.std.specs.Prelude.{◌≡◌, ◌≤◌, ◌+◌, map, IfOk};
 ghost use Rattle.sto_model.specs.declared.call.Call.{Call};
 ghost use Rattle.sto_model.specs.PlainReplies.{plain_reply};
 ghost use Rattle.sto_history.specs.Added.{Grows};
-ghost use Rattle.sto_history.specs.Records.{is_abort};
 ghost use Rattle.sto_transaction.specs.Plain.{verdict};
 ghost use Rattle.sto_transaction.specs.Resting.{IsAtRest};
 ghost use Rattle.sto_action.specs.Shortened.{short_of};
 ghost use Rattle.sto_action.specs.Progs.{Runs, IsTakenCall};
-ghost use Rattle.sto_action.specs.Atomic.{HasTried};
+ghost use Rattle.sto_action.specs.Causes.{NamesPart};
+ghost use Rattle.sto_action.specs.Atomic.{HasTried, HasSaid, IsTriedBy};
 
 use crate::body::ActionBody;
+use crate::cause::cause_of;
 use crate::code::Action;
 use crate::memory::ActionLists;
+use crate::outcome::Attempted;
 use crate::tx::{Stop, Tx};
 use std::alloc::Global;
-use sto_attempt::Verdict;
 use sto_core::Cells;
 use sto_model::Shapes;
 use sto_part::NoMemory;
 use sto_transaction::{AttemptWatch, Record, Transaction};
 use sto_type::TxType;
 
-/// Makes one attempt of code, which may draw one ticket. It answers what the code said at its end, or none where it was aborted.
+/// Makes one attempt of code, which may draw one ticket. It answers what the code said at its end, or why it was aborted.
 pub(crate) fn attempt<T: TxType, K: Action, C: Cells<T>, W: AttemptWatch>(
     alloc: Global,
     ty: &T,
@@ -31,7 +32,7 @@ pub(crate) fn attempt<T: TxType, K: Action, C: Cells<T>, W: AttemptWatch>(
     watch: &mut W,
     memory: &mut ActionLists,
     code: &K,
-) -> Result<Option<Result<K::Out, Stop<K::Reason>>>, NoMemory>
+) -> Result<Attempted<Result<K::Out, Stop<K::Reason>>>, NoMemory>
 where
     K::Out: Drop,
     K::Reason: Drop,
@@ -43,7 +44,7 @@ where
     ensures grows { Grows (C.view cells.old) (C.view cells.new) }
     ensures tried { HasTried (T.meaning ty.now) (C.view cells.old) (C.view cells.new) shapes.now.items (K.most code.now) (K.does code.now)
         result }
-    ensures alone { C.passes cells.old ≡ 1 → IfOk result IsSome }
+    ensures alone { C.passes cells.old ≡ 1 → IfOk result HasSaid }
     ensures same { C.same cells.old cells.new }
 {
     let body = ActionBody::new(memory.take_heard(), code, shapes)?;
@@ -67,25 +68,30 @@ where
     };
     match records.pop() {
         Some(last) => {
-            let said = said_by(code, &last);
+            let tried = tried_by(ty, code, &last);
             memory.keep(last.replies, records, transacted.body.heard);
-            Ok(said)
+            Ok(tried)
         }
         None => unreachable!(),
     }
 }
 
-// What the code says at its end by the record of an attempt; none where that was aborted.
+// What an attempt led to, by its record.
 #[tactic(auto, using(crate::proofs::Following::runs_of))]
-fn said_by<K: Action>(code: &K, last: &Record) -> Option<Result<K::Out, Stop<K::Reason>>>
+fn tried_by<T: TxType, K: Action>(
+    ty: &T,
+    code: &K,
+    last: &Record,
+) -> Attempted<Result<K::Out, Stop<K::Reason>>>
 where
     K::Out: Drop,
     K::Reason: Drop,
-    ensures { MatchOption result (is_abort (verdict last.now.verdict) ≡ true) (λ said. (is_abort (verdict last.now.verdict) ≡ false)
-        × Runs (K.does code.now) (map short_of (map plain_reply last.now.replies.items)) said) }
+    requires { NamesPart (T.meaning ty.now) (verdict last.now.verdict) }
+    ensures { IsTriedBy (T.meaning ty.now) (verdict last.now.verdict)
+        (λ said. Runs (K.does code.now) (map short_of (map plain_reply last.now.replies.items)) said) result }
 {
-    match last.verdict {
-        Verdict::Locked { .. } | Verdict::Changed { .. } => None,
-        _ => Some(code.run(&mut Tx::of_replies(last.replies.as_slice()))),
+    match cause_of(ty, last.verdict) {
+        Some(cause) => Attempted::Aborted(cause),
+        None => Attempted::Said(code.run(&mut Tx::of_replies(last.replies.as_slice()))),
     }
 }

@@ -4,6 +4,7 @@
 mod atomic;
 mod attempt;
 mod body;
+mod cause;
 mod code;
 mod display;
 mod handles;
@@ -15,10 +16,11 @@ mod tx;
 
 pub use atomic::atomically;
 pub use body::ActionBody;
+pub use cause::{AbortCause, cause_of};
 pub use code::Action;
 pub use handles::{ArrayId, BoxId, CounterId, HashId, TreeId, VectorId};
 pub use memory::ActionLists;
-pub use outcome::{Done, TransactionError};
+pub use outcome::{Attempted, Done, TransactionError};
 pub use short_reply::ShortReply;
 pub use snapshot::{Snapshot, SnapshotValues};
 pub use tx::{Stop, Tx};

@@ -71,19 +71,19 @@ module _ {T E A : Type 0} (t : OfType T) (before after : Working T) (most : ℕ)
   led_given tries (Ok (Gave value)) h = let e = ended (λ hs. IsGiven p hs value) h in let one : length e.0.did ≡ 1 = e.1.0 in record { repeated = e.0; at_most = omega (arith, one); each_time = omega (arith, one); led = e.1.1 }
   led_given tries (Ok (Cancelled reason)) h = let e = ended (λ hs. IsCancelled p hs reason) h in let one : length e.0.did ≡ 1 = e.1.0 in record { repeated = e.0; at_most = omega (arith, one); each_time = omega (arith, one); led = e.1.1 }
   led_given tries (Err (Refused call)) h = let e = ended (λ hs. IsAsked p hs call) h in let one : length e.0.did ≡ 1 = e.1.0 in record { repeated = e.0; at_most = omega (arith, one); each_time = tt; led = e.1.1 }
-  led_given tries (Err Busy) h = record { repeated = none h.none; at_most = omega (arith); each_time = tt; led = tt }
+  led_given tries (Err (Busy told last)) h = record { repeated = none h.1.aborted.none; at_most = omega (arith); each_time = tt; led = tt }
   led_given tries (Err Worn) h = record { repeated = none h.1.2.none; at_most = omega (arith); each_time = tt; led = tt }
   led_given tries (Err NoMemory) h = record { repeated = none h; at_most = omega (arith); each_time = tt; led = tt }
 
 -- why it was not run to its end
-pub led_cause : {T E A : Type 0} (m : Meaning) (before after : Working T) (tries most : ℕ) (p : Prog E A) (r : Result (Done A E) TransactionError)
-    → HasLed m before.seat.me.0.view after.seat.me.0.view tries after.left before.shapes most p r → HasCause before after tries r
-led_cause m before after tries most p (Ok (Gave value)) h = tt
-led_cause m before after tries most p (Ok (Cancelled reason)) h = tt
-led_cause m before after tries most p (Err (Refused call)) h = tt
-led_cause m before after tries most p (Err Busy) h = h
-led_cause m before after tries most p (Err Worn) h = h
-led_cause m before after tries most p (Err NoMemory) h = tt
+pub led_cause : {T E A : Type 0} (t : OfType T) (before after : Working T) (tries most : ℕ) (p : Prog E A) (r : Result (Done A E) TransactionError)
+    → HasLed (t.meaning before.words.ty) before.seat.me.0.view after.seat.me.0.view tries after.left before.shapes most p r → HasCause t before after tries r
+led_cause t before after tries most p (Ok (Gave value)) h = tt
+led_cause t before after tries most p (Ok (Cancelled reason)) h = tt
+led_cause t before after tries most p (Err (Refused call)) h = tt
+led_cause t before after tries most p (Err (Busy told last)) h = h
+led_cause t before after tries most p (Err Worn) h = h
+led_cause t before after tries most p (Err NoMemory) h = tt
 
 heard_more : {T : Type 0} (u v : Working T) (did more : List Transaction) (says : List ShortReply → Type 0) → Grows u.seat.me.0.view v.seat.me.0.view → HasHeard v more says → HasHeard u (did ++ more) says
 heard_more u v did more says g h = record {
@@ -133,7 +133,7 @@ module _ {T E A : Type 0} (t : OfType T) where
   led_more u v did more p (Ok (Gave value)) g h = heard_more u v did more (λ hs. IsGiven p hs value) g h
   led_more u v did more p (Ok (Cancelled reason)) g h = heard_more u v did more (λ hs. IsCancelled p hs reason) g h
   led_more u v did more p (Err (Refused call)) g h = heard_more u v did more (λ hs. IsAsked p hs call) g h
-  led_more u v did more p (Err Busy) g h = tt
+  led_more u v did more p (Err (Busy told last)) g h = tt
   led_more u v did more p (Err Worn) g h = tt
   led_more u v did more p (Err NoMemory) g h = tt
 

@@ -13,7 +13,7 @@ use Rattle.sto_action.specs.declared.outcome.Done.{Done}
 use Rattle.sto_action.specs.declared.outcome.Done.TheVariants.{Gave, Cancelled}
 use Rattle.sto_action.specs.declared.outcome.TransactionError.{TransactionError}
 use Rattle.sto_action.specs.declared.outcome.TransactionError.TheVariants.{Busy, Refused, Worn, NoMemory}
-use Rattle.sto_action.specs.Atomic.{steps_of, HasSeen, HaveAborted}
+use Rattle.sto_action.specs.Atomic.{steps_of, HasSeen, HaveAborted, IsBusy}
 use Rattle.sto_library.specs.Values.{Working}
 
 -- from one time to a later one the worker ran code of this family again and again, each time another one, and nothing else
@@ -40,7 +40,7 @@ abbrev pub IsLedBy : {T E A : Type 0} → Working T → List Transaction → Pro
 IsLedBy before did p (Ok (Gave value)) = HasHeard before did (λ hs. IsGiven p hs value)
 IsLedBy before did p (Ok (Cancelled reason)) = HasHeard before did (λ hs. IsCancelled p hs reason)
 IsLedBy before did p (Err (Refused call)) = HasHeard before did (λ hs. IsAsked p hs call)
-IsLedBy before did p (Err Busy) = Unit {0}
+IsLedBy before did p (Err (Busy told last)) = Unit {0}
 IsLedBy before did p (Err Worn) = Unit {0}
 IsLedBy before did p (Err NoMemory) = Unit {0}
 
@@ -51,10 +51,11 @@ pub record HasGiven {T E A : Type 0} (t : OfType T) (before after : Working T) (
   pub each_time : OnOk outcome (times ≤ length repeated.did)
   pub led : IsLedBy before repeated.did p outcome
 
--- why it was not run to its end, where it had so many tries: each was made and aborted; or fewer were, and no attempt is left to the worker
-abbrev pub HasCause : {T E A : Type 0} → (before after : Working T) → (tries : ℕ) → Result (Done A E) TransactionError → Type 0
-HasCause before after tries (Err Busy) = HaveAborted before.seat.me.0.view after.seat.me.0.view tries
-HasCause before after tries (Err Worn) = (after.left ≡ 0) × ((many : ℕ) × (many < tries) × HaveAborted before.seat.me.0.view after.seat.me.0.view many)
-HasCause before after tries (Err NoMemory) = Unit {0}
-HasCause before after tries (Err (Refused call)) = Unit {0}
-HasCause before after tries (Ok done) = Unit {0}
+-- why it was not run to its end, where it had so many tries: each was made and aborted, the last one by the cause that is told; or fewer were
+-- made, and no attempt is left to the worker
+abbrev pub HasCause : {T E A : Type 0} → OfType T → (before after : Working T) → (tries : ℕ) → Result (Done A E) TransactionError → Type 0
+HasCause t before after tries (Err (Busy told last)) = IsBusy (t.meaning before.words.ty) before.seat.me.0.view after.seat.me.0.view tries told last
+HasCause t before after tries (Err Worn) = (after.left ≡ 0) × ((many : ℕ) × (many < tries) × HaveAborted before.seat.me.0.view after.seat.me.0.view many)
+HasCause t before after tries (Err NoMemory) = Unit {0}
+HasCause t before after tries (Err (Refused call)) = Unit {0}
+HasCause t before after tries (Ok done) = Unit {0}

@@ -23,7 +23,7 @@ pub record IsOneDone {T Out : Type 0} (old new : Stored T) (gives : Working T �
 module _ {T E A : Type 0} (t : OfType T) (old new : Stored T) (most : ℕ) (p : Prog E A) where
   -- a worker ran this code and nothing else, and one of the runs led to this; where it was not run to its end, that has its cause
   abbrev pub IsLookOf : Result (Done A E) TransactionError → Type 0
-  IsLookOf outcome = IsOneDone old new (λ before after o. HasGiven t before after 1 most p o × HasCause before after (2 ^ 16) o) outcome
+  IsLookOf outcome = IsOneDone old new (λ before after o. HasGiven t before after 1 most p o × HasCause t before after (2 ^ 16) o) outcome
 
   -- what a look answers; where no worker rests, the store is as it was
   abbrev pub HasLooked : Result (Done A E) LookError → Type 0

@@ -17,8 +17,8 @@ pub use either::Either;
 pub use error::StoreError;
 pub use schema::Schema;
 pub use sto_action::{
-    Action, ArrayId, BoxId, CounterId, Done, HashId, ShortReply, Snapshot, SnapshotValues, Stop,
-    TransactionError, TreeId, Tx, VectorId,
+    AbortCause, Action, ArrayId, BoxId, CounterId, Done, HashId, ShortReply, Snapshot,
+    SnapshotValues, Stop, TransactionError, TreeId, Tx, VectorId,
 };
 pub use sto_model::{Call, Operation, Rows, State};
 pub use sto_part::{NoMemory, Test, wrapping_difference, wrapping_sum};

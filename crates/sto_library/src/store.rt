@@ -88,7 +88,7 @@ where
     requires serves { Serves T.TxType words.now worker.rest.seat }
     ensures serves { Serves T.TxType words.now result.0.rest.seat }
     ensures done { IsDone words.now shapes.now.items worker.rest.seat.me.0.view result.0.rest.seat.me.0.view
-        (λ before after o. HasGiven T.TxType before after 1 (K.most code.now) (K.does code.now) o × HasCause before after (2 ^ 16) o)
+        (λ before after o. HasGiven T.TxType before after 1 (K.most code.now) (K.does code.now) o × HasCause T.TxType before after (2 ^ 16) o)
         result.1 }
 {
     let mut busy = StoreWorker::new(alloc, words, shapes, worker);

@@ -1,5 +1,5 @@
 //! A worker at its store.
-ghost use Rattle.std.specs.Prelude.{◌≡◌, ◌≤◌, ◌^◌};
+ghost use Rattle.std.specs.Prelude.{◌≡◌, ◌<◌, ◌^◌};
 ghost use Rattle.sto_history.specs.Added.{Grows};
 ghost use Rattle.sto_action.specs.Atomic.{HasLed, IsUndisturbed};
 ghost use Rattle.sto_library.specs.Values.{Serves, TakeCalls};
@@ -68,7 +68,7 @@ impl<'s, T: TxType> StoreWorker<'s, T> {
     ///
     /// The value is that of the code run alone on the contents right before the transaction's ticket, or of a transaction that only
     /// reads, on those of the time as of which it read; after all that this worker had seen. On each error nothing took effect, and the
-    /// worker can go on. Whatever happened, the worker ran this code and nothing else (clause `given`).
+    /// worker can go on; `Busy` says how many attempts were made, and which object the last one found locked or changed. Whatever happened, the worker ran this code and nothing else (clause `given`).
     pub fn run<K: Action>(&mut self, code: &K) -> Result<Done<K::Out, K::Reason>, TransactionError>
     where
         K::Out: Drop,
@@ -83,7 +83,7 @@ impl<'s, T: TxType> StoreWorker<'s, T> {
         self.run_with(TRIES, &mut Waits::new(), code)
     }
 
-    /// The same with at most so many attempts, and with something else to do between them.
+    /// The same with at most so many attempts, one at least, and with something else to do between them.
     pub fn run_with<K: Action, W: AttemptWatch>(
         &mut self,
         tries: u32,
@@ -93,11 +93,12 @@ impl<'s, T: TxType> StoreWorker<'s, T> {
     where
         K::Out: Drop,
         K::Reason: Drop,
+        requires some { 0 < tries }
         ensures led { HasLed (T.meaning self.old.words.ty) self.old.seat.me.0.view self.new.seat.me.0.view tries self.new.left
             self.old.shapes (K.most code.now) (K.does code.now) result }
         ensures given { HasGiven T.TxType self.old self.new 1 (K.most code.now) (K.does code.now) result }
         ensures grows { Grows self.old.seat.me.0.view self.new.seat.me.0.view }
-        ensures alone { self.old.words.shared.table.shared.key.passes ≡ 1 → 1 ≤ tries → IsUndisturbed result }
+        ensures alone { self.old.words.shared.table.shared.key.passes ≡ 1 → IsUndisturbed result }
         ensures same { (self.new.words ≡ self.old.words) × (self.new.shapes ≡ self.old.shapes) }
     {
         self.lead(tries, watch, code)
@@ -113,10 +114,11 @@ impl<'s, T: TxType> StoreWorker<'s, T> {
     where
         K::Out: Drop,
         K::Reason: Drop,
+        requires some { 0 < tries }
         ensures led { HasLed (T.meaning self.old.words.ty) self.old.seat.me.0.view self.new.seat.me.0.view tries self.new.left
             self.old.shapes (K.most code.now) (K.does code.now) result }
         ensures grows { Grows self.old.seat.me.0.view self.new.seat.me.0.view }
-        ensures alone { self.old.words.shared.table.shared.key.passes ≡ 1 → 1 ≤ tries → IsUndisturbed result }
+        ensures alone { self.old.words.shared.table.shared.key.passes ≡ 1 → IsUndisturbed result }
         ensures same { (self.new.words ≡ self.old.words) × (self.new.shapes ≡ self.old.shapes) }
     {
         let busy = &mut self.busy;

@@ -9,6 +9,7 @@ use Rattle.sto_action.specs.Calls.{number}
 use Rattle.sto_action.specs.declared.short_reply.ShortReply.{ShortReply}
 use Rattle.sto_action.specs.declared.short_reply.ShortReply.TheVariants.{Value}
 use Rattle.sto_action.specs.Atomic.{HasLed}
+use Rattle.sto_action.specs.declared.cause.AbortCause.{AbortCause}
 use Rattle.sto_action.specs.declared.outcome.TransactionError.TheVariants.{Busy}
 use Rattle.sto_once.specs.Once.{Heard, Answering, Goes, Gave}
 
@@ -43,6 +44,6 @@ other_reply call g = other (subst (λ (hs : List Heard). Gave (asks_once call) h
   other h = let same : 2 ≡ 1 = ap natural h.1.0 in omega (arith, same)
 
 -- where two tries may be made, one does not tell that others were in the way
-pub busy_after_one_try : {E A : Type 0} (m : Meaning) (v w : View) (left : ℕ) (shapes : List Shape) (most : ℕ) (p : Prog E A) → w.starts ≡ v.starts + 1
-    → HasLed m v w 2 left shapes most p (Err Busy) → ⊥
-busy_after_one_try m v w left shapes most p one h = let all = h.starts in omega (arith, one, all)
+pub busy_after_one_try : {E A : Type 0} (m : Meaning) (v w : View) (left : ℕ) (shapes : List Shape) (most : ℕ) (p : Prog E A) (told : ℕ) (last : AbortCause) → w.starts ≡ v.starts + 1
+    → HasLed m v w 2 left shapes most p (Err (Busy told last)) → ⊥
+busy_after_one_try m v w left shapes most p told last one h = let all = h.1.aborted.starts in omega (arith, one, all)

@@ -1,16 +1,16 @@
 //! Code that is run until an attempt is not aborted, once an attempt.
-ghost use Rattle.std.specs.Prelude.{◌≡◌, ◌≤◌, ◌^◌, ℕ};
+ghost use Rattle.std.specs.Prelude.{◌≡◌, ◌<◌, ◌≤◌, ◌^◌, ℕ};
 ghost use Rattle.sto_model.specs.declared.call.Call.{Call};
 ghost use Rattle.sto_history.specs.Added.{Grows};
 ghost use Rattle.sto_transaction.specs.Resting.{IsAtRest};
 ghost use Rattle.sto_action.specs.Progs.{IsTakenCall};
 ghost use Rattle.sto_action.specs.Atomic.{HasLed, IsUndisturbed};
-ghost use Rattle.sto_once.specs.Telling.{told_once};
+ghost use Rattle.sto_once.specs.Telling.{IsEnd, IsToldOnce};
 
 use crate::attempt::attempt;
 use crate::code::{Code, Halt};
 use std::alloc::Global;
-use sto_action::{Done, TransactionError};
+use sto_action::{Attempted, Done, TransactionError};
 use sto_core::Cells;
 use sto_interactive::StepLists;
 use sto_model::Shapes;
@@ -37,15 +37,17 @@ where
     requires takes { (call : Call) → IsTakenCall shapes.now.items call → (T.meaning ty.now).takes call }
     requires rests { IsAtRest (T.meaning ty.now) (T.sizes ty.now) (C.view cells) }
     requires left { left.old ≤ (C.view cells).draws }
+    requires some { 0 < tries }
     ensures rests { IsAtRest (T.meaning ty.now) (T.sizes ty.now) (C.view result.0) }
     ensures left { left.new ≤ (C.view result.0).draws }
     ensures grows { Grows (C.view cells) (C.view result.0) }
     ensures led { (most : ℕ) → 2 ^ 32 ≤ most → HasLed (T.meaning ty.now) (C.view cells) (C.view result.0) tries left.new
         shapes.now.items most (K.does code.now) result.1 }
-    ensures alone { C.passes cells ≡ 1 → 1 ≤ tries → IsUndisturbed result.1 }
+    ensures alone { C.passes cells ≡ 1 → IsUndisturbed result.1 }
     ensures same { C.same cells result.0 }
 {
     let mut pass = cells;
+    let mut last = None;
     for aborted in 0..tries {
         if aborted > 0 {
             watch.before_retry();
@@ -54,25 +56,29 @@ where
             return (pass, Err(TransactionError::Worn));
         }
         *left -= 1;
-        let (back, said) = attempt(alloc, ty, shapes, pass, memory, code);
+        let (back, tried) = attempt(alloc, ty, shapes, pass, memory, code);
         pass = back;
-        match said {
-            Ok(Some(said)) => return (pass, told(said)),
-            Ok(None) => {}
+        match tried {
+            Ok(Attempted::Said(said)) => return (pass, told(said)),
+            Ok(Attempted::Aborted(cause)) => last = Some(cause),
             Err(NoMemory) => return (pass, Err(TransactionError::NoMemory)),
         }
     }
-    (pass, Err(TransactionError::Busy))
+    match last {
+        Some(last) => (pass, Err(TransactionError::Busy { tries, last })),
+        None => unreachable!(),
+    }
 }
 
 // What a transaction gave by what its code said at its end.
 fn told<A: Drop, E: Drop>(said: Result<A, Halt<E>>) -> Result<Done<A, E>, TransactionError>
-    ensures { result ≡ told_once said }
+    requires { IsEnd said }
+    ensures { IsToldOnce said result }
 {
     match said {
         Ok(value) => Ok(Done::Gave(value)),
         Err(Halt::Cancels(reason)) => Ok(Done::Cancelled(reason)),
         Err(Halt::Untaken(call)) => Err(TransactionError::Refused(call)),
-        Err(Halt::Over) => Err(TransactionError::Busy),
+        Err(Halt::Over) => unreachable!(),
     }
 }

@@ -1,25 +1,23 @@
 //! One attempt of code, which is run once.
-ghost use Rattle.std.specs.Prelude.{◌≡◌, ◌<◌, ℕ, None, Ok, Err};
+ghost use Rattle.std.specs.Prelude.{◌≡◌, ◌<◌, ℕ, false, None, Ok, Err, MatchOption};
 ghost use Rattle.sto_model.specs.declared.call.Call.{Call};
-ghost use Rattle.sto_history.specs.Records.{is_abort};
 ghost use Rattle.sto_core.specs.declared.view.View.{View};
-ghost use Rattle.sto_transaction.specs.Plain.{verdict};
 ghost use Rattle.sto_transaction.specs.Resting.{IsAtRest};
 ghost use Rattle.sto_action.specs.Progs.{IsTakenCall, Prog};
 ghost use Rattle.sto_once.specs.Over.{OverKey};
-ghost use Rattle.sto_once.specs.Attempts.{After, HasTriedOnce, MayRun, is_aborted, key_of};
+ghost use Rattle.sto_once.specs.Attempts.{After, HasTriedOnce, IsStopCause, MayRun, StopNamesPart, is_aborted, key_of};
 
 use crate::code::{Code, Halt};
 use crate::over::OverLive;
 use std::alloc::Global;
-use sto_attempt::Verdict;
+use sto_action::{AbortCause, Attempted, cause_of};
 use sto_core::Cells;
 use sto_interactive::{Live, StepError, StepLists};
 use sto_model::Shapes;
 use sto_part::NoMemory;
 use sto_type::TxType;
 
-/// Makes one attempt of code, which may draw one ticket. It answers what the code said at its end, or none where it was aborted. The
+/// Makes one attempt of code, which may draw one ticket. It answers what the code said at its end, or why it was aborted. The
 /// pass is handed back.
 pub(crate) fn attempt<T: TxType, K: Code, C: Cells<T>>(
     alloc: Global,
@@ -28,7 +26,10 @@ pub(crate) fn attempt<T: TxType, K: Code, C: Cells<T>>(
     cells: C,
     memory: &mut StepLists,
     code: &K,
-) -> (C, Result<Option<Result<K::Out, Halt<K::Reason>>>, NoMemory>)
+) -> (
+    C,
+    Result<Attempted<Result<K::Out, Halt<K::Reason>>>, NoMemory>,
+)
 where
     K::Out: Drop,
     K::Reason: Drop,
@@ -46,8 +47,8 @@ where
     };
     let (live, cells, stopped, said) = run_over(alloc, live, shapes, cells, code);
     let mut cells = cells;
-    let said = end(alloc, live, &mut cells, memory, stopped, said);
-    (cells, said)
+    let tried = end(alloc, ty, live, &mut cells, memory, stopped, said);
+    (cells, tried)
 }
 
 // Runs code over a transaction that has asked nothing.
@@ -89,29 +90,30 @@ fn run_over<'t, T: TxType, K: Code, C: Cells<T>>(
 // Ends a transaction by what its code said.
 fn end<T: TxType, C: Cells<T>, A: Drop, E: Drop>(
     alloc: Global,
+    ty: &T,
     live: Live<'_, T>,
     cells: &mut C,
     memory: &mut StepLists,
     stopped: Option<StepError>,
     said: Result<A, Halt<E>>,
-) -> Result<Option<Result<A, Halt<E>>>, NoMemory>
-    requires { (k : OverKey T C) × (p : Prog E A) × After T.TxType C.Cells k p stopped said live (C.view cells.old) × C.same k.start cells.old }
+) -> Result<Attempted<Result<A, Halt<E>>>, NoMemory>
+    requires { (k : OverKey T C) × (p : Prog E A) × After T.TxType C.Cells k p stopped said live (C.view cells.old) × C.same k.start cells.old
+        × (k.ty ≡ ty.now) }
     ensures tried { (k : OverKey T C) (p : Prog E A) → After T.TxType C.Cells k p stopped said live.entry (C.view cells.old)
-        → C.same k.start cells.old
+        → C.same k.start cells.old → k.ty ≡ ty.now
         → HasTriedOnce (T.meaning k.ty) (T.sizes k.ty) (C.passes k.start) k.begun (C.view cells.new) k.shapes p result }
     ensures same { C.same cells.old cells.new }
 {
     match stopped {
         Some(stop) => {
             live.give_back(memory);
-            if is_aborted(stop) {
-                Ok(None)
-            } else {
-                Err(NoMemory)
+            match stop_cause(ty, stop) {
+                Some(cause) => Ok(Attempted::Aborted(cause)),
+                None => Err(NoMemory),
             }
         }
         None => match said {
-            Ok(value) => commit(alloc, live, cells, memory, value),
+            Ok(value) => commit(alloc, ty, live, cells, memory, value),
             Err(halt) => cancel::<T, C, A, E>(alloc, live, memory, halt),
         },
     }
@@ -120,24 +122,24 @@ fn end<T: TxType, C: Cells<T>, A: Drop, E: Drop>(
 // Commits a transaction whose code gave a value.
 fn commit<T: TxType, C: Cells<T>, A: Drop, E: Drop>(
     alloc: Global,
+    ty: &T,
     live: Live<'_, T>,
     cells: &mut C,
     memory: &mut StepLists,
     value: A,
-) -> Result<Option<Result<A, Halt<E>>>, NoMemory>
-    requires { (k : OverKey T C) × (p : Prog E A) × After T.TxType C.Cells k p None (Ok value) live (C.view cells.old) }
+) -> Result<Attempted<Result<A, Halt<E>>>, NoMemory>
+    requires { (k : OverKey T C) × (p : Prog E A) × After T.TxType C.Cells k p None (Ok value) live (C.view cells.old) × (k.ty ≡ ty.now) }
     ensures tried { (k : OverKey T C) (p : Prog E A) → After T.TxType C.Cells k p None (Ok value) live.entry (C.view cells.old)
-        → HasTriedOnce (T.meaning k.ty) (T.sizes k.ty) (C.passes cells.old) k.begun (C.view cells.new) k.shapes p result }
+        → k.ty ≡ ty.now → HasTriedOnce (T.meaning k.ty) (T.sizes k.ty) (C.passes cells.old) k.begun (C.view cells.new) k.shapes p result }
     ensures same { C.same cells.old cells.new }
 {
     match live.commit(alloc, cells, memory) {
         Ok(ended) => {
-            let aborted = is_abort(ended.verdict);
+            let cause = cause_of(ty, ended.verdict);
             memory.keep(ended);
-            if aborted {
-                Ok(None)
-            } else {
-                Ok(Some(Ok(value)))
+            match cause {
+                Some(cause) => Ok(Attempted::Aborted(cause)),
+                None => Ok(Attempted::Said(Ok(value))),
             }
         }
         Err(NoMemory) => Err(NoMemory),
@@ -150,7 +152,7 @@ fn cancel<T: TxType, C: Cells<T>, A: Drop, E: Drop>(
     live: Live<'_, T>,
     memory: &mut StepLists,
     halt: Halt<E>,
-) -> Result<Option<Result<A, Halt<E>>>, NoMemory>
+) -> Result<Attempted<Result<A, Halt<E>>>, NoMemory>
     requires { (k : OverKey T C) × (p : Prog E A) × (v : View) × After T.TxType C.Cells k p None (Err halt) live v }
     ensures { (k : OverKey T C) (p : Prog E A) (v : View) (passes : ℕ) → After T.TxType C.Cells k p None (Err halt) live.entry v
         → HasTriedOnce (T.meaning k.ty) (T.sizes k.ty) passes k.begun v k.shapes p result }
@@ -158,22 +160,19 @@ fn cancel<T: TxType, C: Cells<T>, A: Drop, E: Drop>(
     match live.cancel(alloc, memory) {
         Ok(ended) => {
             memory.keep(ended);
-            Ok(Some(Err(halt)))
+            Ok(Attempted::Said(Err(halt)))
         }
         Err(NoMemory) => Err(NoMemory),
     }
 }
 
-// Whether it met an abort.
-fn is_aborted(stop: StepError) -> bool
-    ensures { result ≡ is_aborted stop }
+// Why it was aborted, where it met an abort.
+fn stop_cause<T: TxType>(ty: &T, stop: StepError) -> Option<AbortCause>
+    requires { StopNamesPart (T.meaning ty.now) stop }
+    ensures { MatchOption result (is_aborted stop ≡ false) (IsStopCause (T.meaning ty.now) stop) }
 {
-    matches!(stop, StepError::Aborted(_))
-}
-
-// Whether the attempt was aborted.
-fn is_abort(end: Verdict) -> bool
-    ensures { result ≡ is_abort (verdict end) }
-{
-    matches!(end, Verdict::Locked { .. } | Verdict::Changed { .. })
+    match stop {
+        StepError::Aborted(end) => cause_of(ty, end),
+        StepError::Untaken | StepError::NoMemory => None,
+    }
 }

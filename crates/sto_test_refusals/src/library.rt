@@ -1,10 +1,12 @@
 //! What a worker of the library and a store do not answer.
-ghost use Rattle.std.specs.Prelude.{◌≡◌, ◌≤◌, ℕ, pos, List, [], ◌∷◌, length, Ok, Err};
+ghost use Rattle.std.specs.Prelude.{◌≡◌, ◌<◌, ◌≤◌, ◌+◌, ◌^◌, ℕ, pos, List, [], ◌∷◌, length, Ok, Err};
 ghost use Rattle.sto_model.specs.Run.{State};
 ghost use Rattle.sto_history.specs.Done.{HaveHistory};
 ghost use Rattle.sto_action.specs.Progs.{Prog};
 ghost use Rattle.sto_action.specs.declared.short_reply.ShortReply.TheVariants.{Value};
 ghost use Rattle.sto_action.specs.Atomic.{HasLed};
+ghost use Rattle.sto_action.specs.declared.cause.AbortCause.{AbortCause};
+ghost use Rattle.sto_action.specs.declared.cause.AbortCause.TheVariants.{Locked, Changed};
 ghost use Rattle.sto_action.specs.declared.outcome.Done.{Done};
 ghost use Rattle.sto_action.specs.declared.outcome.Done.TheVariants.{Gave, Cancelled};
 ghost use Rattle.sto_action.specs.declared.outcome.TransactionError.{TransactionError};
@@ -18,14 +20,31 @@ ghost use Rattle.sto_library.specs.Looks.{HasLooked};
 ghost use Rattle.sto_library.specs.Tasks.{AreAllDone, HasFailed};
 ghost use Rattle.sto_library.specs.declared.task.TaskError.TheVariants.{NoWorker};
 ghost use Rattle.sto_test_premises.specs.Adding.{box, valid};
+ghost use Rattle.sto_test_refusals.specs.Found.{HasFoundElsewhere, HasFoundFree, HasFoundLocked, object_of};
 ghost use Rattle.sto_test_refusals.specs.Runs.{HasRun, AlwaysGives, gets, gives_up, shapes, unused, has_read, has_added, opening_rows, first_worker, second_worker, rows_with};
 
 use sto_library::{Task, TxType};
 
 /// What `run` of a worker does not answer.
 pub fn not_run<T: TxType, A, E>()
-    // `Busy`, where no attempt was begun.
-    ensures busy_after_no_start { (before after : Working T) (most : ℕ) (p : Prog E A) → HasRun T.TxType before after most p (Err Busy)
+    // `Busy`, where fewer attempts were begun than it has tries, ...
+    ensures busy_after_fewer_starts { (before after : Working T) (most told : ℕ) (p : Prog E A) (last : AbortCause)
+        → HasRun T.TxType before after most p (Err (Busy told last))
+        → after.seat.me.0.view.starts < before.seat.me.0.view.starts + 2 ^ 16 → ⊥ }
+    // ... or with another number of tries; ...
+    ensures busy_by_other_tries { (before after : Working T) (most told : ℕ) (p : Prog E A) (last : AbortCause)
+        → HasRun T.TxType before after most p (Err (Busy told last)) → (told ≡ 2 ^ 16 → ⊥) → ⊥ }
+    // ... by an object of which the last attempt found nothing; ...
+    ensures busy_by_other_object { (before after : Working T) (most told : ℕ) (p : Prog E A) (last : AbortCause)
+        → HasRun T.TxType before after most p (Err (Busy told last))
+        → HasFoundElsewhere (T.meaning before.words.ty) after.seat.me.0.view (object_of last) → ⊥ }
+    // ... by a lock, where that found what was free, and by a change, where it found what was locked.
+    ensures busy_by_lock { (before after : Working T) (most told object : ℕ) (p : Prog E A)
+        → HasRun T.TxType before after most p (Err (Busy told (Locked object))) → HasFoundFree after.seat.me.0.view → ⊥ }
+    ensures busy_by_change { (before after : Working T) (most told object : ℕ) (p : Prog E A)
+        → HasRun T.TxType before after most p (Err (Busy told (Changed object))) → HasFoundLocked after.seat.me.0.view → ⊥ }
+    // That its code came to an end, where no attempt was begun.
+    ensures ended_after_no_start { (before after : Working T) (most : ℕ) (p : Prog E A) (done : Done A E) → HasRun T.TxType before after most p (Ok done)
         → after.seat.me.0.view.starts ≡ before.seat.me.0.view.starts → ⊥ }
     // `Worn`, with tickets left.
     ensures worn_with_tickets_left { (before after : Working T) (most : ℕ) (p : Prog E A) → HasRun T.TxType before after most p (Err Worn)
@@ -48,8 +67,8 @@ pub fn not_looked<T: TxType, A, E>()
     ensures unrun { (old new : Stored T) (most : ℕ) (p : Prog E A) (e : TransactionError) → HasLooked T.TxType old new most p (Err (look_error.Transaction e))
         → old.views ≡ [] → ⊥ }
     // That others were in the way, where no worker has begun anything.
-    ensures busy_after_no_start { (old new : Stored T) (most : ℕ) (p : Prog E A) → HasLooked T.TxType old new most p (Err (look_error.Transaction Busy))
-        → new.views ≡ old.views → ⊥ }
+    ensures busy_after_no_start { (old new : Stored T) (most told : ℕ) (p : Prog E A) (last : AbortCause)
+        → HasLooked T.TxType old new most p (Err (look_error.Transaction (Busy told last))) → new.views ≡ old.views → ⊥ }
 {}
 
 /// What `run_tasks` of a store does not answer.

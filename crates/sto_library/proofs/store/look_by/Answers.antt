@@ -1,5 +1,6 @@
 use Rattle.std.proofs.Common.{◌^◌, sym, ap}
 use Rattle.atomic_table.specs.declared.shared.Seat.{Seat}
+use Rattle.sto_type.specs.Traits.{of_type}
 use Rattle.sto_core.specs.declared.view.View.{View}
 use Rattle.sto_table.specs.declared.stance.Stance.{Stance}
 use Rattle.sto_library.proofs.Doings.{led_cause}
@@ -15,5 +16,5 @@ returns-clause-done g c =
       same_shapes = c.new-busy.ensures.1;
       from = ap view c.new-busy.ensures.2;
       to = sym (ap view c.rest.ensures.seat.0);
-      gave = (c.run-told.ensures.given, led_cause _ c.new-busy.result c.run-told.new.self (2 ^ 16) (g.K.Action.most c.args.code.now) (g.K.Action.does c.args.code.now) c.run-told.result c.run-told.ensures.led);
+      gave = (c.run-told.ensures.given, led_cause (of_type g.T.Naming g.T.TxType) c.new-busy.result c.run-told.new.self (2 ^ 16) (g.K.Action.most c.args.code.now) (g.K.Action.does c.args.code.now) c.run-told.result c.run-told.ensures.led);
     }

@@ -11,4 +11,4 @@ pub returns-clause-unrun : goal.returns-clause-unrun
 returns-clause-unrun g c = λ old new most p e looked none. look_not_done old.views looked.others looked.from looked.were none
 
 pub returns-clause-busy_after_no_start : goal.returns-clause-busy_after_no_start
-returns-clause-busy_after_no_start g c = λ old new most p. look_not_busy _ old new most p
+returns-clause-busy_after_no_start g c = λ old new most told p last. look_not_busy _ old new most told p last

@@ -48,5 +48,5 @@ returns-clause-looked g c =
       to = V again;
       were = sym (ap (λ (s : Stored g.row.T.Denot). s.views) c.self.view_is) ∙ ap (map V) all ∙ map-append V others (worker ∷ []);
       are = ap (map V) back ∙ map-append V others (again ∷ []);
-      done = subst (λ (s : Stored g.row.T.Denot). IsDone s.words s.shapes (V worker) (V again) (λ before after o. HasGiven t before after 1 most p o × HasCause before after (2 ^ 16) o) out) c.self.view_is c.look_by-worker.ensures.done;
+      done = subst (λ (s : Stored g.row.T.Denot). IsDone s.words s.shapes (V worker) (V again) (λ before after o. HasGiven t before after 1 most p o × HasCause t before after (2 ^ 16) o) out) c.self.view_is c.look_by-worker.ensures.done;
     }))
