@@ -61,7 +61,8 @@ IsTold json file (Some (Never words)) reports answer text = TellsAsked json file
 
 -- the text tells what all orders of the file's transactions lead to, each outcome once, or those that are asked for: by the report of a run that
 -- leads there, which `step` prints with the schedule beside it. An outcome without a schedule would have its report alone. Whatever a lawful
--- report tells, by any schedule, tries and threads, one of these tells. No more nodes are allowed than were asked for
+-- report tells, by any schedule, tries and threads, one of these tells. The threads' numbers of transactions, each with one more, have no larger
+-- product than nodes were asked for
 pub record TellsOrders (by : SameBy) (states : ℕ) (json : Bool) (asked : Option Asked) (file : File) (answer : Answer) (text : List ℕ) : Type 0 where
   pub allowed : least_told file.threads ≤ states
   pub reports : List OrderReport

@@ -28,7 +28,7 @@ fn status(outcome: Result<Answer, Refusal>) -> u8
 }
 
 /// All that the program does with the words after its name. It gives the exit status. The gate is told of the workers of `run` and `bench`, and
-/// the meter of each run of `explore`.
+/// the meter of each run of `schedules`.
 ///
 /// | Status | When | `out` gains | `diag` gains |
 /// |---|---|---|---|

@@ -152,7 +152,8 @@ impl<T: TxType> SharedStore<T> {
     /// Looks at the objects without closing the store: a worker that rests here runs code as one transaction, in this thread, and rests
     /// again.
     ///
-    /// What it gives is told as of `StoreWorker::run`: it is that of one state of all objects, after all that this worker had seen.
+    /// What it gives is told as of `StoreWorker::run`: it is that of all valid contents that have what it looked at, after all that this
+    /// worker had seen; no clause says how new they are.
     /// `Snapshot` is such code. Code that writes is taken, too.
     pub fn look<K: Action>(
         &mut self,
@@ -203,6 +204,7 @@ impl<T: TxType> SharedStore<T> {
 
 impl<T: TxType + Drop> SharedStore<T> {
     /// Closes the store, and answers the rows that each of its objects holds. All its workers are to rest in it; else it comes back.
+    /// For want of memory it is lost.
     ///
     /// The rows are the last state of a serial history (clause `history`): whatever transactions are all that the workers have done, each
     /// is in that history its serial run, from the state right before its number, or on the state as of the number that it read.

@@ -66,9 +66,11 @@ impl<'s, T: TxType> StoreWorker<'s, T> {
 
     /// Runs code as one transaction: attempts are made until one is not aborted by what others did.
     ///
-    /// The value is that of the code run alone on the contents right before the transaction's ticket, or of a transaction that only
-    /// reads, on those of the time as of which it read; after all that this worker had seen. On each error nothing took effect, and the
-    /// worker can go on; `Busy` says how many attempts were made, and which object the last one found locked or changed. Whatever happened, the worker ran this code and nothing else (clause `given`).
+    /// The value is that of the code run alone on all valid contents that have what it looked at: those right before the transaction's
+    /// ticket, or of a transaction that only reads, those of the number as of which it read; after all that this worker had seen. No clause
+    /// says how new these are. On each error nothing took effect, and but for `Worn` the worker can go on; `Busy` says how many attempts were
+    /// made, and of which object the last one found a part locked or with another ticket. Whatever happened, the worker ran this code and
+    /// nothing else (clause `given`).
     pub fn run<K: Action>(&mut self, code: &K) -> Result<Done<K::Out, K::Reason>, TransactionError>
     where
         K::Out: Drop,

@@ -48,7 +48,7 @@ fn question_in(alloc: Global, decls: &[Decl], text: &[u8]) -> Result<Question, Q
 /// with `=`, `!=`, `<`, `<=`, `>` or `>=` between them. A side is amounts with `+` or `-` between each two. An amount is a number of 64 bits, the
 /// NAME of a box or a counter, or NAME[KEY] of another object.
 ///
-/// `Fault` comes exactly where the words are no question, and is the first fault from the left.
+/// `Fault` comes only where the words are no question, and is the first fault from the left.
 pub fn read_question(alloc: Global, file: &File, words: &[u8]) -> Result<Question, QuestionError>
     ensures question { IfOk result (λ q. question_of (view file.now) words.now ≡ Ok (view_of q)) }
     ensures cause { IfErr result (IsCause (view file.now) words.now) }

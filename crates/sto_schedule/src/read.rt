@@ -70,7 +70,8 @@ fn read_schedule(alloc: Global, file: &File, words: &[u8]) -> Result<Schedule, S
 /// The file with the schedule that words are, in the place of its own: entries `THREAD:STEPS` with blanks between them, as behind the word
 /// `schedule` of its script. A thread is told by its number, and in version 2 of the language by its name.
 ///
-/// `Fault` comes exactly where a line of the script could not have these words, and has the kind that this line would be refused for:
+/// `Fault` comes only where a line of the script could not have these words, and has the kind that this line would be refused for (a sign
+/// that no script has, a bad byte there, is of no word here):
 /// `BadLine` where they are no entries or none at all, `BadNumber`, `UnknownName` for a thread that there is not, and `OutOfLimits`.
 /// `NoMemory` comes also for words of 2^32 bytes and more.
 pub fn with_schedule(alloc: Global, file: File, words: &[u8]) -> Result<File, ScheduleError>
