@@ -11,6 +11,7 @@ ghost use Rattle.sto_cli.specs.declared.told.Answer.TheVariants.{Done};
 use crate::answer::{bench_text, gen_text, run_text, step_text, upgrade_text};
 use crate::drawn::draw_text;
 use crate::explored::explore_told;
+use crate::help::help_text;
 use crate::scheduled::schedules_text;
 use crate::told::{Answer, Told};
 use crate::traced::trace_text;
@@ -144,7 +145,7 @@ fn upgrade_source<S: Source>(alloc: Global, source: &mut S) -> Result<Text, Refu
 }
 
 /// Makes the whole text of a command. `run`, `step`, `trace`, `draw`, `explore`, `schedules` and `upgrade` read the source to its end or past the
-/// limit; `gen` and `bench` do not touch it.
+/// limit; `gen`, `bench` and `--help` do not touch it.
 fn told_for<R: Threads + Sync, S: Source, G: Gate, W: Meter>(
     rt: &R,
     alloc: Global,
@@ -217,6 +218,10 @@ fn told_for<R: Threads + Sync, S: Source, G: Gate, W: Meter>(
                 text: bench_text(rt, alloc, number, threads, gate)?,
             })
         }
+        Command::Help { page } => Ok(Told {
+            answer: Answer::Done,
+            text: help_text(alloc, page)?,
+        }),
     }
 }
 

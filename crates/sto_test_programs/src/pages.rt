@@ -1,5 +1,5 @@
 //! The examples and worked cases that the pages show, and each row of their tables of mistakes and of faults.
-use crate::outcome::outcome_of;
+use crate::outcome::{Outcome, outcome_of};
 use crate::page::{Example, Fault, Mistake, Page};
 use std::alloc::AllocError;
 use std::thread::Threads;
@@ -7,10 +7,11 @@ use std::{fs, io};
 use sto_cli::NoGate;
 
 /// The pages that show runs. The examples that they name lie beside them.
-pub const PAGES: [&str; 9] = [
+pub const PAGES: [&str; 10] = [
     "language.md",
     "report.md",
     "statuses.md",
+    "help.md",
     "mistakes.md",
     "steps.md",
     "cases.md",
@@ -18,19 +19,6 @@ pub const PAGES: [&str; 9] = [
     "questions.md",
     "schedules.md",
 ];
-
-// Whether a run writes what stands in a file, and nothing beside.
-fn is_as_stored<R: Threads + Sync>(
-    rt: &HostRuntime,
-    threads: &R,
-    words: &str,
-    script: &str,
-    file: &str,
-) -> io::Result<bool> {
-    let stored = fs::read_to_string(rt, file)?;
-    let outcome = outcome_of(threads, rt.alloc(), words, script, &NoGate)?;
-    Ok(outcome.status == 0 && outcome.said.is_empty() && outcome.written == stored)
-}
 
 // The words before an arrow and the file behind it, where the arrow stands in no quotes.
 fn redirected<'a>(command: &'a str, arrow: &str) -> Option<(&'a str, &'a str)> {
@@ -41,6 +29,34 @@ fn redirected<'a>(command: &'a str, arrow: &str) -> Option<(&'a str, &'a str)> {
     Some((words, file))
 }
 
+// What the words do with the file that they name, and else with the script.
+fn run_of<R: Threads + Sync>(
+    rt: &HostRuntime,
+    threads: &R,
+    command: &str,
+    script: &str,
+) -> io::Result<Outcome> {
+    let Some((words, file)) = redirected(command, " < ") else {
+        return Ok(outcome_of(threads, rt.alloc(), command, script, &NoGate)?);
+    };
+    let script = fs::read_to_string(rt, file)?;
+    Ok(outcome_of(threads, rt.alloc(), words, script.as_str(), &NoGate)?)
+}
+
+// Whether a run writes what stands in a file, and nothing beside.
+fn is_as_stored(rt: &HostRuntime, outcome: &Outcome, file: &str) -> io::Result<bool> {
+    let stored = fs::read_to_string(rt, file)?;
+    Ok(outcome.status == 0 && outcome.said.is_empty() && outcome.written == stored)
+}
+
+// Whether a page shows a text, or its beginning above a line of three dots.
+fn shows(page: &str, text: &str) -> bool {
+    match page.strip_suffix("...\n") {
+        Some(front) => text.starts_with(front),
+        None => text == page,
+    }
+}
+
 // Whether a run writes what the page shows, with the status where the page shows it, and else with status 0.
 fn is_as_shown<R: Threads + Sync>(
     rt: &HostRuntime,
@@ -48,29 +64,18 @@ fn is_as_shown<R: Threads + Sync>(
     example: &Example,
 ) -> io::Result<bool> {
     let shown = example.command.as_str();
-    if let Some((words, file)) = redirected(shown, " > ") {
-        return is_as_stored(rt, threads, words, example.script.as_str(), file);
+    let script = example.script.as_str();
+    if let Some((command, file)) = redirected(shown, " > ") {
+        let outcome = run_of(rt, threads, command, script)?;
+        return is_as_stored(rt, &outcome, file);
     }
     let asked = shown.strip_suffix("; echo $?");
-    let command = asked.unwrap_or(shown);
-    let outcome = match redirected(command, " < ") {
-        Some((words, file)) => {
-            let script = fs::read_to_string(rt, file)?;
-            outcome_of(threads, rt.alloc(), words, script.as_str(), &NoGate)?
-        }
-        None => outcome_of(
-            threads,
-            rt.alloc(),
-            command,
-            example.script.as_str(),
-            &NoGate,
-        )?,
-    };
-    let shown = outcome.shown(rt.alloc())?;
+    let outcome = run_of(rt, threads, asked.unwrap_or(shown), script)?;
+    let text = outcome.shown(rt.alloc())?;
     if asked.is_none() {
-        return Ok(outcome.status == 0 && shown == example.output);
+        return Ok(outcome.status == 0 && shows(example.output.as_str(), text.as_str()));
     }
-    let whole = format!(in rt.alloc(); "{shown}{}\n", outcome.status)?;
+    let whole = format!(in rt.alloc(); "{text}{}\n", outcome.status)?;
     Ok(whole == example.output)
 }
 

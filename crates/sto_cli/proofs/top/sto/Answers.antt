@@ -1,11 +1,12 @@
-use Rattle.sto_args.specs.Commands.{command_in}
+use Rattle.sto_args.specs.Commands.{command_of, command_in}
 use Rattle.sto_console.proofs.Endings.{ended, read_so, write_so}
 use Rattle.sto_console.proofs.Causes.{causes}
-use Rattle.std.proofs.Common.{◌∙◌, sym}
+use Rattle.std.proofs.Common.{◌∙◌, sym, ap}
 use Rattle.sto_console.specs.Outcomes.{IsDone}
 use Rattle.sto_cli.specs.declared.told.Answer.TheVariants.{Done, Found}
 use Rattle.sto_cli.specs.Programs.{program, answer_status}
 use Rattle.sto_cli.proofs.Exclusive.{exclusive, few_statuses, by_done, by_found}
+use Rattle.sto_cli.proofs.Helped.{asked, helped}
 use Rattle.sto_cli.proofs.top.sto.Goals as goal
 
 pub returns : goal.returns
@@ -28,6 +29,7 @@ returns g c =
     record {
       headline = λ zero. let told = so.done (Done, zero) in by_done (λ answer. IsDone program answer command left rest held now) told.0 (sym told.1 ∙ zero) told.2;
       found = λ one. let told = so.done (Found, one) in by_found (λ answer. IsDone program answer command left rest held now) told.0 (sym told.1 ∙ one) told.2;
+      help = λ page asks. helped page left rest held now command (ap command_of asks ∙ asked page) c.say.result status c.status.ensures ends;
       ends = (c.say.result, c.status.ensures, (ends, c.say.ensures.says));
       causes = so;
     }
