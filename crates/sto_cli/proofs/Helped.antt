@@ -30,11 +30,11 @@ asked Upgrade = refl
 asked Gen = refl
 asked Bench = refl
 
-module _ (page : HelpPage) (left rest held now : Option (List ℕ)) where
+module _ (page : HelpPage) (left rest held now : Option (List ℕ)) (unread : rest ≡ left) where
   by_ending : (ending : Result Answer Refusal) → Ends program ending (Some (Help page)) left rest held now → IsHelped page (status_of answer_status ending) left rest held now
   by_ending (Ok Done) h = record {
     printed = λ e. subst (Gains held now) h.made.output.1 h.gained;
-    unread = λ other. h.made.reads;
+    unread = unread;
     statuses = inl refl;
   }
   by_ending (Ok Found) h = let e : 1 ≡ 0 = ap answer_status h.made.output.0 in absurd (omega (arith, e))
@@ -43,12 +43,12 @@ module _ (page : HelpPage) (left rest held now : Option (List ℕ)) where
   by_ending (Err ReadFault) h = absurd (true≢false (sym h.0))
   by_ending (Err WriteFault) h = record {
     printed = λ e. absurd (omega (arith, e));
-    unread = λ other. h.made.reads;
+    unread = unread;
     statuses = inr (inl refl);
   }
   by_ending (Err NoMemory) h = record {
     printed = λ e. absurd (omega (arith, e));
-    unread = λ other. absurd (other refl);
+    unread = unread;
     statuses = inr (inr refl);
   }
 

@@ -1,5 +1,5 @@
 -- What `--help` prints, and how a call ends that asks for it.
-use Rattle.std.specs.Prelude.{◌≡◌, ◌≢◌, ℕ, List, ◌⊎◌, Option}
+use Rattle.std.specs.Prelude.{◌≡◌, ℕ, List, ◌⊎◌, Option}
 use Rattle.sto_args.specs.declared.help.HelpPage.{HelpPage}
 use Rattle.sto_args.specs.declared.help.HelpPage.TheVariants.{Program, Run, Step, Trace, Draw, Explore, Schedules, Upgrade, Gen, Bench}
 use Rattle.sto_console.specs.Told.{Gains}
@@ -22,7 +22,7 @@ help_text Bench = BENCH.now
 pub record IsHelped (page : HelpPage) (status : ℕ) (left rest held now : Option (List ℕ)) : Type 0 where
   -- with status 0 the page was written, and nothing else
   pub printed : status ≡ 0 → Gains held now (help_text page)
-  -- its input is as it was, unless memory could not be had
-  pub unread : status ≢ 6 → rest ≡ left
+  -- its input is as it was
+  pub unread : rest ≡ left
   -- another status is 5, where the output failed, or 6, where memory could not be had
   pub statuses : (status ≡ 0) ⊎ (status ≡ 5) ⊎ (status ≡ 6)

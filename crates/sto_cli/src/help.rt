@@ -44,10 +44,10 @@ Reads a script from standard input, runs it on threads, and prints its report:
 the transactions in the order in which they took effect, with the reply of each
 call; then each aborted attempt; then what the objects hold.
 
---threads N  1 to 16 threads, but no more than the script has; else as many as
-             it has, and at most 16
---tries N    after N aborted attempts, 1 to 64, and else 64, a transaction is
-             handed back with all that follow in its thread, and these run last
+--threads N  1 to 16 threads (16 if not given), but no more than the script has
+--tries N    1 to 64 (64 if not given): after so many aborted attempts a
+             transaction is handed back with all that follow in its thread, and
+             these run last
 --json       the report as one line of JSON
 
 An example:
@@ -60,9 +60,9 @@ Reads a script from standard input, runs it in one thread, event by event, and
 prints its report, as sto run does. The schedule says which thread makes the
 next events, and how many.
 
---tries N        after N aborted attempts, 1 to 64, and else 64, a transaction
-                 is handed back with all that follow in its thread, and these
-                 run last
+--tries N        1 to 64 (64 if not given): after so many aborted attempts a
+                 transaction is handed back with all that follow in its thread,
+                 and these run last
 --json           the report as one line of JSON
 --schedule TEXT  a schedule in the place of the script's own
 
@@ -76,9 +76,9 @@ Reads a script from standard input, runs it as sto step does, and prints a line
 for each event. The script has at most 256 transactions, and the run makes at
 most 100,000 events.
 
---tries N        after N aborted attempts, 1 to 64, and else 64, a transaction
-                 is handed back with all that follow in its thread, and these
-                 run last
+--tries N        1 to 64 (64 if not given): after so many aborted attempts a
+                 transaction is handed back with all that follow in its thread,
+                 and these run last
 --json           each event as a line of JSON
 --schedule TEXT  a schedule in the place of the script's own
 
@@ -92,9 +92,9 @@ Reads a script from standard input, runs it as sto step does, and prints a
 picture of the run in SVG. The script has at most 256 transactions, and the run
 makes at most 20,000 events.
 
---tries N        after N aborted attempts, 1 to 64, and else 64, a transaction
-                 is handed back with all that follow in its thread, and these
-                 run last
+--tries N        1 to 64 (64 if not given): after so many aborted attempts a
+                 transaction is handed back with all that follow in its thread,
+                 and these run last
 --schedule TEXT  a schedule in the place of the script's own
 
 An example:
@@ -108,10 +108,10 @@ transactions lead to: each outcome once, with how many orders lead to it, and a
 schedule by which sto step prints its report.
 
 --by WORD     what two outcomes differ in: state, what the objects hold;
-              answers, this and the replies; order, these and the order of the
-              transactions; else state
---states N    at most N states may be needed where orders meet, 1 to
-              1,000,000,000; else 1,000,000
+              answers, this and the replies; or order, these and the order of
+              the transactions (state if not given)
+--states N    1 to 1000000000 (1000000 if not given): so many states at most
+              may be needed where orders meet
 --json        the outcomes as one line of JSON
 --where TEXT  those outcomes alone of which the question TEXT is true
 --never TEXT  the same; the status is 1 where there is one, and else 0
@@ -130,9 +130,10 @@ once, with how many schedules lead to it. The script has at most 256
 transactions and 1,000,000 such schedules, and a run makes at most 100,000
 events.
 
---switches K  0 to 8 switches; else 2
---tries N     after N aborted attempts, 1 to 64, and else 64, a transaction is
-              handed back with all that follow in its thread, and these run last
+--switches K  0 to 8 switches (2 if not given)
+--tries N     1 to 64 (64 if not given): after so many aborted attempts a
+              transaction is handed back with all that follow in its thread, and
+              these run last
 --json        the reports as one line of JSON
 
 An example:
@@ -163,7 +164,7 @@ Runs the script that sto gen NUMBER prints on threads, and prints five lines:
 the number, how many transactions there were, and three sums of what the objects
 hold, which are the same in whatever order they ran. Reads no input.
 
---threads N  1 to 16 threads; else 16
+--threads N  1 to 16 threads (16 if not given)
 
 An example:
     ./sto bench 1

@@ -12,3 +12,4 @@ pub mod Feeds
 pub mod Findings
 pub mod Scheduled
 pub mod Questions
+pub mod Helps
