@@ -1,5 +1,5 @@
 -- How a call ends that asks for help.
-use Rattle.std.proofs.Common.{◌≡◌, ℕ, List, inl, inr, refl, sym, ap, ◌∙◌, subst, arith, true, true≢false, Option, None, Some, Result, Ok, Err}
+use Rattle.std.proofs.Common.{◌≡◌, ℕ, List, inl, inr, refl, sym, ap, ◌∙◌, subst, arith, true≢false, Option, Some, Result, Ok, Err}
 use Rattle.std.specs.Option.{is_some}
 use Rattle.sto_args.specs.Commands.{command_of}
 use Rattle.sto_args.specs.HelpPages.{help_words}

@@ -170,6 +170,7 @@ An example:
     ./sto bench 1
 ";
 
+#[tactic(auto, unfolding(crate::specs::Helps::help_text))]
 /// What the page says.
 fn page_text(page: HelpPage) -> &'static str
     ensures text { result.now ≡ help_text page }

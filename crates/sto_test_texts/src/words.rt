@@ -64,14 +64,8 @@ const COMMANDS: &[(&[&str], Numbers)] = &[
     ),
     (&["bench", "1"], ("bench", 0, 1, false)),
     (&["bench", "--threads", "4", "7"], ("bench", 4, 7, false)),
-    (
-        &["--help"],
-        ("help", 0, HelpPage::Program as u64, false),
-    ),
-    (
-        &["--help", "run"],
-        ("help", 0, HelpPage::Run as u64, false),
-    ),
+    (&["--help"], ("help", 0, HelpPage::Program as u64, false)),
+    (&["--help", "run"], ("help", 0, HelpPage::Run as u64, false)),
     (
         &["--help", "bench"],
         ("help", 0, HelpPage::Bench as u64, false),

@@ -31,8 +31,8 @@ returns g c =
       headline = λ zero. let told = so.done (Done, zero) in by_done (λ answer. IsDone program answer command left rest held now) told.0 (sym told.1 ∙ zero) told.2;
       found = λ one. let told = so.done (Found, one) in by_found (λ answer. IsDone program answer command left rest held now) told.0 (sym told.1 ∙ one) told.2;
       help = λ page asks.
-        let is = ap command_of asks ∙ asked page in
-        helped page left rest held now (c.perform-outcome.ensures.unread (Help page) is refl) command is c.say.result status c.status.ensures ends;
+          let is = ap command_of asks ∙ asked page in
+          helped page left rest held now (c.perform-outcome.ensures.unread (Help page) is refl) command is c.say.result status c.status.ensures ends;
       ends = (c.say.result, c.status.ensures, (ends, c.say.ensures.says));
       causes = so;
     }
