@@ -33,13 +33,13 @@ apart e = differ (help_text Run) (help_text Step) 4 114 115 refl refl (λ n. ome
 pub other_page : (bytes text : List ℕ) → IsOutput (Help Run) bytes text → IsOutput (Help Step) bytes text → ⊥
 other_page bytes text o p = apart (sym o ∙ p)
 
-none_of : (2 ≡ 0) ⊎ (2 ≡ 5) ⊎ (2 ≡ 6) → ⊥
-none_of (inl e) = omega (arith, e)
-none_of (inr (inl e)) = omega (arith, e)
-none_of (inr (inr e)) = omega (arith, e)
+none_of : (status : ℕ) → status ≡ 2 → (status ≡ 0) ⊎ (status ≡ 5) ⊎ (status ≡ 6) → ⊥
+none_of status two (inl e) = omega (arith, two, e)
+none_of status two (inr (inl e)) = omega (arith, two, e)
+none_of status two (inr (inr e)) = omega (arith, two, e)
 
 pub help_usage : (page : HelpPage) (left rest held now : Option (List ℕ)) → IsHelped page 2 left rest held now → ⊥
-help_usage page left rest held now h = none_of h.statuses
+help_usage page left rest held now h = none_of 2 refl h.statuses
 
 pub help_silent : (page : HelpPage) (left rest : Option (List ℕ)) (held : List ℕ) → IsHelped page 0 left rest (Some held) (Some held) → ⊥
 help_silent page left rest held h = some_text page (none_gained held (help_text page) (h.printed refl))
