@@ -9,7 +9,7 @@ use Rattle.std.proofs.lemmas.List.{take_all}
 use Rattle.clap.proofs.WalkLemmas.{list_any-map}
 use Rattle.sto_args.specs.declared.command.Command.{Command}
 use Rattle.sto_args.specs.Given.{Text, Takes, Given, Word, Bare, Valued, Alone, Refused, Reading, with_word, with_awaited, kind_of, after_word, given_after, given_by, is_refused, is_refused_kind, as_option, gives_flag}
-use Rattle.sto_args.specs.Commands.{command_of, command_from, run_of, run_takes, step_of, step_takes, trace_of, draw_takes, draw_of, explore_takes, explore_of, schedules_takes, schedules_of, upgrade_of, gen_of, gen_takes, bench_of, bench_takes}
+use Rattle.sto_args.specs.Commands.{command_of, command_from, run_of, run_takes, step_of, step_takes, trace_of, draw_takes, draw_of, explore_takes, explore_of, schedules_takes, schedules_of, upgrade_of, gen_of, gen_takes, bench_of, bench_takes, help_of}
 
 is_refused_word : (kind : Word) → is_refused_kind kind ≡ true → kind ≡ Refused
 is_refused_word (Bare name) e = absurd (true≢false (sym e))
@@ -77,20 +77,33 @@ command_refused word words e =
     ∙ (λ i. command_by is_run is_step is_trace is_draw is_explore is_schedules is_upgrade is_gen is_bench
     (none run_takes i) (none step_takes i) (none step_takes i) (none draw_takes i) (none explore_takes i) (none schedules_takes i) (no_upgrade words e i) (none gen_takes i) (none bench_takes i))
 
+-- words of which the first one asks for help
+pub help_after_first : {X : Type 0} (f : X → Text) (xs : List X) (x : X) (command : Option Command) → 1 ≤ length xs → x ≡ get_or xs 0 x
+    → bytes_eq (f x) (codes "--help") ≡ true → command ≡ help_of (map f (take (length xs - 1) (drop 1 xs))) → command ≡ command_of (map f xs)
+help_after_first f [] x command some is help same = absurd (omega (arith, some))
+help_after_first f (y ∷ ys) x command some is help same =
+    let all : take (length (y ∷ ys) - 1) ys ≡ ys = take_all (length (y ∷ ys) - 1) ys (omega arith) in
+    let asks : bytes_eq (f y) (codes "--help") ≡ true = ap (λ z. bytes_eq (f z) (codes "--help")) (sym is) ∙ help in
+    same ∙ ap (λ zs. help_of (map f zs)) all
+    ∙ sym (ap (λ b. if b then help_of (map f ys) else (if list_any gives_flag (map f ys) then None else command_from (f y) (map as_option (map f ys)))) asks)
+
 -- words after the first one that give a value to a flag
-pub valued_after_first : {X : Type 0} (f : X → Text) (xs : List X) → true ≡ list_any (λ x. gives_flag (f x)) (take (length xs - 1) (drop 1 xs)) → None ≡ command_of (map f xs)
-valued_after_first f [] e = refl
-valued_after_first f (x ∷ xs) e =
-    let found : list_any gives_flag (map f xs) ≡ true = sym (e ∙ ap (list_any (λ y. gives_flag (f y))) (take_all (length (x ∷ xs) - 1) xs (omega arith)) ∙ list_any-map gives_flag f xs) in
-    sym (ap (λ b. if b then None else command_from (f x) (map as_option (map f xs))) found)
+pub valued_after_first : {X : Type 0} (f : X → Text) (xs : List X) (x : X) → 1 ≤ length xs → x ≡ get_or xs 0 x → bytes_eq (f x) (codes "--help") ≡ false
+    → true ≡ list_any (λ x. gives_flag (f x)) (take (length xs - 1) (drop 1 xs)) → None ≡ command_of (map f xs)
+valued_after_first f [] x some is help e = absurd (omega (arith, some))
+valued_after_first f (y ∷ ys) x some is help e =
+    let asks : bytes_eq (f y) (codes "--help") ≡ false = ap (λ z. bytes_eq (f z) (codes "--help")) (sym is) ∙ help in
+    let found : list_any gives_flag (map f ys) ≡ true = sym (e ∙ ap (list_any (λ z. gives_flag (f z))) (take_all (length (y ∷ ys) - 1) ys (omega arith)) ∙ list_any-map gives_flag f ys) in
+    sym (λ i. if asks i then help_of (map f ys) else (if found i then None else command_from (f y) (map as_option (map f ys))))
 
 -- words after the first one that give none
-pub options_after_first : {X : Type 0} (f : X → Text) (xs : List X) (x : X) (options : List Text) → 1 ≤ length xs → x ≡ get_or xs 0 x
+pub options_after_first : {X : Type 0} (f : X → Text) (xs : List X) (x : X) (options : List Text) → 1 ≤ length xs → x ≡ get_or xs 0 x → bytes_eq (f x) (codes "--help") ≡ false
     → false ≡ list_any (λ y. gives_flag (f y)) (take (length xs - 1) (drop 1 xs)) → options ≡ map as_option (map f (take (length xs - 1) (drop 1 xs)))
     → command_from (f x) options ≡ command_of (map f xs)
-options_after_first f [] x options some is e same = absurd (omega (arith, some))
-options_after_first f (y ∷ ys) x options some is e same =
+options_after_first f [] x options some is help e same = absurd (omega (arith, some))
+options_after_first f (y ∷ ys) x options some is help e same =
     let all : take (length (y ∷ ys) - 1) ys ≡ ys = take_all (length (y ∷ ys) - 1) ys (omega arith) in
+    let asks : bytes_eq (f y) (codes "--help") ≡ false = ap (λ z. bytes_eq (f z) (codes "--help")) (sym is) ∙ help in
     let none : list_any gives_flag (map f ys) ≡ false = sym (e ∙ ap (list_any (λ z. gives_flag (f z))) all ∙ list_any-map gives_flag f ys) in
     (λ i. command_from (f (is i)) ((same ∙ ap (λ zs. map as_option (map f zs)) all) i))
-    ∙ sym (ap (λ b. if b then None else command_from (f y) (map as_option (map f ys))) none)
+    ∙ sym (λ i. if asks i then help_of (map f ys) else (if none i then None else command_from (f y) (map as_option (map f ys))))

@@ -5,9 +5,10 @@ use Rattle.std.specs.Str.{bytes_eq}
 use Rattle.std.specs.Str.Parse.{digits_value}
 use Rattle.std.specs.List.{list_any}
 use Rattle.sto_args.specs.Given.{Text, Takes, Given, value_of, number_name, given_by, as_option, gives_flag}
+use Rattle.sto_args.specs.HelpPages.{page_of}
 use Rattle.sto_args.specs.declared.command.Command.{Command}
 use Rattle.sto_args.specs.declared.command.Stepping.{Stepping}
-use Rattle.sto_args.specs.declared.command.Command.TheVariants.{Run, Step, Trace, Draw, Explore, Schedules, Upgrade, Gen, Bench}
+use Rattle.sto_args.specs.declared.command.Command.TheVariants.{Run, Step, Trace, Draw, Explore, Schedules, Upgrade, Gen, Bench, Help}
 use Rattle.sto_args.specs.declared.command.By.{By}
 use Rattle.sto_args.specs.declared.command.By.TheVariants.{State, Answers, Order}
 use Rattle.sto_args.specs.declared.command.Asked.{Asked}
@@ -119,6 +120,10 @@ bench_takes = record { options = codes "threads" ∷ []; number = true }
 abbrev pub bench_of : Given → Option Command
 bench_of given = option_and_then (λ number. option_map (λ threads. Bench number threads) (threads_of (value_of (codes "threads") given))) (option_and_then decimal_of (value_of number_name given))
 
+-- `--help` alone, or with the name of a command
+abbrev pub help_of : List Text → Option Command
+help_of words = option_map (λ page. Help page) (page_of words)
+
 -- the command that the first word names, with what the other words give it
 abbrev pub command_from : Text → List Text → Option Command
 command_from word words =
@@ -135,7 +140,10 @@ command_from word words =
 
 abbrev pub command_of : List Text → Option Command
 command_of [] = None
-command_of (word ∷ words) = if list_any gives_flag words then None else command_from word (map as_option words)
+command_of (word ∷ words) =
+    if bytes_eq word (codes "--help") then help_of words
+    else (if list_any gives_flag words then None
+    else command_from word (map as_option words))
 
 -- the command that the words of a program are
 abbrev pub command_in : {Z : Type 0} → List (String Z) → Option Command
@@ -157,3 +165,4 @@ HasRange (Schedules switches tries json) = (switches ≤ 8) × (1 ≤ tries) × 
 HasRange Upgrade = Unit {0}
 HasRange (Gen number) = Unit {0}
 HasRange (Bench number threads) = HasThreads threads
+HasRange (Help page) = Unit {0}

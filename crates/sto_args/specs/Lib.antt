@@ -1,4 +1,5 @@
 pub mod Given
+pub mod HelpPages
 pub mod Commands
 pub mod Grammars
 pub mod Asked

@@ -1,15 +1,16 @@
 //! The commands.
-ghost use Rattle.std.specs.Prelude.{◌≡◌, ◌≤◌, IfOk, IfSome, false, is_some, map};
+ghost use Rattle.std.specs.Prelude.{◌≡◌, ◌≤◌, IfOk, IfSome, false, is_some, map, string_bytes};
 ghost use Rattle.std.specs.List.{list_any};
 ghost use Rattle.std.specs.Option.{option_and_then, option_map};
 ghost use Rattle.sto_args.specs.Given.{given_by, is_refused};
-ghost use Rattle.sto_args.specs.Commands.{HasThreads, HasRange, command_in, command_from, run_takes, run_of, step_takes, stepping_of, step_of, trace_of, draw_takes, draw_of, explore_takes, explore_of, asked_of, schedules_takes, schedules_of, upgrade_of, gen_takes, gen_of, bench_takes, bench_of, threads_of, tries_of, switches_of, by_of, states_of, decimal_of};
+ghost use Rattle.sto_args.specs.Commands.{HasThreads, HasRange, command_in, command_from, run_takes, run_of, step_takes, stepping_of, step_of, trace_of, draw_takes, draw_of, explore_takes, explore_of, asked_of, schedules_takes, schedules_of, upgrade_of, gen_takes, gen_of, bench_takes, bench_of, help_of, threads_of, tries_of, switches_of, by_of, states_of, decimal_of};
 
 use crate::given::GivenText;
 use crate::grammar::{
     bench_grammar, draw_grammar, explore_grammar, gen_grammar, matches_in, run_grammar,
     schedules_grammar, step_grammar,
 };
+use crate::help::{HelpPage, page_of};
 use crate::number::{decimal_of, number_in};
 use crate::word::{as_options, has_flag_value, has_refused};
 use std::alloc::Global;
@@ -85,6 +86,10 @@ pub enum Command {
     Bench {
         number: u64,
         threads: Option<u32>,
+    },
+    /// Prints a page of help.
+    Help {
+        page: HelpPage,
     },
 }
 
@@ -405,6 +410,14 @@ fn bench(alloc: Global, words: &[&str]) -> Result<Option<Command>, NoMemory>
     Ok(Some(Command::Bench { number, threads }))
 }
 
+fn help(words: &[String]) -> Option<Command>
+    ensures range { IfSome result HasRange }
+    ensures command { result ≡ help_of (map (λ word. string_bytes word) words.now) }
+{
+    let page = page_of(words)?;
+    Some(Command::Help { page })
+}
+
 /// The command that the words after the program's name are. `None` comes exactly where they are
 /// not in the grammar.
 ///
@@ -419,6 +432,7 @@ fn bench(alloc: Global, words: &[&str]) -> Result<Option<Command>, NoMemory>
 /// | `upgrade` | `Upgrade` |
 /// | `gen NUMBER` | `Gen`, with a number of 64 bits |
 /// | `bench NUMBER [--threads N]` | `Bench`, with a number of 64 bits, and with threads as for `Run` |
+/// | `--help`, and `--help` before the name of one of these | `Help`, with the page of the program or of that command |
 ///
 /// Options stand before or after the NUMBER. An option is given at most once, as two words `--tries N` or as one word `--tries=N`, and `--json`
 /// as a word without a value. A number has decimal digits, no sign, and no leading zero unless it is
@@ -430,6 +444,9 @@ pub fn find_command(alloc: Global, words: &[String]) -> Result<Option<Command>, 
     let [word, rest @ ..] = words else {
         return Ok(None);
     };
+    if word.as_str() == "--help" {
+        return Ok(help(rest));
+    }
     if has_flag_value(rest) {
         return Ok(None);
     }

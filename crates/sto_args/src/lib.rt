@@ -5,9 +5,11 @@ mod asked;
 mod command;
 mod given;
 mod grammar;
+mod help;
 mod number;
 mod word;
 
 pub use asked::{Checking, Feeding, find_checking, find_feeding};
 pub use command::{Asked, By, Command, find_command};
 pub use given::GivenText;
+pub use help::HelpPage;

@@ -8,7 +8,7 @@ use Rattle.sto_lang.specs.declared.fault.ScriptFault.{ScriptFault}
 use Rattle.sto_args.specs.declared.command.Asked.{Asked}
 use Rattle.sto_args.specs.declared.command.Asked.TheVariants.{Where, Never}
 use Rattle.sto_args.specs.declared.command.Command.{Command}
-use Rattle.sto_args.specs.declared.command.Command.TheVariants.{Run, Step, Trace, Draw, Explore, Schedules, Upgrade, Gen, Bench}
+use Rattle.sto_args.specs.declared.command.Command.TheVariants.{Run, Step, Trace, Draw, Explore, Schedules, Upgrade, Gen, Bench, Help}
 use Rattle.sto_console.specs.declared.refusal.InputFault.{InputFault}
 use Rattle.sto_console.specs.declared.refusal.InputFault.TheVariants.{Script, NoReport, LongTrace, LongRun, ManySchedules, ManyStates, Schedule, Question}
 use Rattle.sto_console.specs.Outcomes.{IsOwn}
@@ -40,6 +40,7 @@ reads (Schedules switches tries json) bytes fault h = refl
 reads Upgrade bytes fault h = refl
 reads (Gen number) bytes fault h = absurd h
 reads (Bench number threads) bytes fault h = absurd h
+reads (Help page) bytes fault h = absurd h
 
 same_file : (x y : File) → ◌≡◌ {A = Result File ScriptFault} (Ok x) (Ok y) → x ≡ y
 same_file x y e = cc
@@ -123,6 +124,7 @@ faultless (Schedules switches tries json) bytes answer text fault own h f = no_r
 faultless Upgrade bytes answer text fault own h f = no_fault bytes h.1.0 fault h.1.1 f
 faultless (Gen number) bytes answer text fault own h f = f
 faultless (Bench number threads) bytes answer text fault own h f = f
+faultless (Help page) bytes answer text fault own h f = f
 
 pub exclusive : IsExclusive program
 exclusive = record { read = reads; faultless = λ command bytes fault answer text own h f. faultless command bytes answer text fault own h f }

@@ -4,3 +4,4 @@ pub mod Counted
 pub mod Lines
 pub mod Refusals
 pub mod Printed
+pub mod Helped

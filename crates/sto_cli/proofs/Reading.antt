@@ -5,7 +5,7 @@ use Rattle.sto_lang.specs.Files.{file_of}
 use Rattle.sto_lang.specs.Scripts.{File}
 use Rattle.sto_lang.specs.declared.fault.ScriptFault.{ScriptFault}
 use Rattle.sto_args.specs.declared.command.Command.{Command}
-use Rattle.sto_args.specs.declared.command.Command.TheVariants.{Run, Step, Trace, Draw, Explore, Schedules, Upgrade, Gen, Bench}
+use Rattle.sto_args.specs.declared.command.Command.TheVariants.{Run, Step, Trace, Draw, Explore, Schedules, Upgrade, Gen, Bench, Help}
 use Rattle.sto_console.specs.declared.refusal.InputFault.{InputFault}
 use Rattle.sto_console.specs.declared.refusal.InputFault.TheVariants.{Script, NoReport, LongTrace, LongRun, ManySchedules, ManyStates, Schedule, Question}
 use Rattle.sto_console.specs.declared.refusal.Refusal.{Refusal}
@@ -38,6 +38,7 @@ has_fault (Schedules switches tries json) reads left rest fault h = h
 has_fault Upgrade reads left rest fault h = h
 has_fault (Gen number) reads left rest fault h = absurd (true≢false (sym reads))
 has_fault (Bench number threads) reads left rest fault h = absurd (true≢false (sym reads))
+has_fault (Help page) reads left rest fault h = absurd (true≢false (sym reads))
 
 -- the bytes that were taken are no script, or there is no memory
 pub unmade : (command : Command) → reads_script command ≡ true → (left rest : Option (List ℕ)) (taken : List ℕ) (refusal : Refusal) → Takes left rest taken

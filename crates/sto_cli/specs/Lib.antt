@@ -2,6 +2,7 @@ pub mod Schedules
 pub mod Traces
 pub mod Explorations
 pub mod Orders
+pub mod Helps
 pub mod Outputs
 pub mod Programs
 pub use Rattle.sto_store.specs.Stores
@@ -14,6 +15,7 @@ pub use Rattle.sto_run.specs.Stepped
 pub use Rattle.sto_journal.specs.Journals
 pub use Rattle.sto_serializability.specs.Meanings
 pub use Rattle.sto_args.specs.Commands
+pub use Rattle.sto_args.specs.HelpPages
 pub use Rattle.sto_console.specs.Told
 pub use Rattle.sto_console.specs.Said
 pub use Rattle.sto_console.specs.Statuses

@@ -17,9 +17,10 @@ use Rattle.sto_bench.specs.Summary.{summary_of, HasTotals}
 use Rattle.sto_run.specs.Lawful.{IsLawfulJournal}
 use Rattle.sto_run.specs.Traced.{turns_in}
 use Rattle.sto_args.specs.declared.command.Command.{Command}
-use Rattle.sto_args.specs.declared.command.Command.TheVariants.{Run, Step, Trace, Draw, Explore, Schedules, Upgrade, Gen, Bench}
+use Rattle.sto_args.specs.declared.command.Command.TheVariants.{Run, Step, Trace, Draw, Explore, Schedules, Upgrade, Gen, Bench, Help}
 use Rattle.sto_draw.specs.Drawn.{IsPicture, IsTooLong}
 use Rattle.sto_run_schedules.specs.Leading.{HasSomeLongRun}
+use Rattle.sto_cli.specs.Helps.{help_text}
 use Rattle.sto_cli.specs.Schedules.{IsScheduled, IsScheduledFault}
 use Rattle.sto_cli.specs.Traces.{IsTraceable, IsTrace, HasLongRun, IsRunFault, NeverMany}
 use Rattle.sto_cli.specs.Orders.{same_by, IsExplored, IsOrdersFault}
@@ -43,7 +44,7 @@ IsSummary number text =
 -- with at most one script thread; `trace` prints the events of such a run, `draw` its picture, all three by the schedule of the words where these
 -- have one; `explore` what all orders of the file's transactions lead to, and `schedules` the outcomes of runs by all schedules within a bound;
 -- `upgrade` prints the canonical text of the file that the bytes are with its version set to 2; `gen` prints the canonical text of the file that
--- the number generates, which reads as that file, and `bench` the summary of a run of it
+-- the number generates, which reads as that file, and `bench` the summary of a run of it; `--help` prints a page
 abbrev pub IsOutput : Command → List ℕ → List ℕ → Type 0
 IsOutput (Run threads tries json) bytes text = IsRunReport threads tries json bytes text
 IsOutput (Step tries json schedule) bytes text = (file : File) × IsScheduled schedule bytes file × IsStepReport (form_for json) file tries (turns_in file.schedule) text
@@ -54,6 +55,7 @@ IsOutput (Schedules switches tries json) bytes text = (file : File) × IsTraceab
 IsOutput Upgrade bytes text = (file : File) × (file_of bytes ≡ Ok file) × (text ≡ text_of (upgraded file))
 IsOutput (Gen number) bytes text = (text ≡ text_of (generated number)) × (file_of text ≡ Ok (generated number))
 IsOutput (Bench number threads) bytes text = IsSummary number text
+IsOutput (Help page) bytes text = text ≡ help_text page
 
 -- the bytes have this fault, or the words beside them
 abbrev pub HasFault : Command → List ℕ → InputFault → Type 0
@@ -66,3 +68,4 @@ HasFault (Schedules switches tries json) bytes fault = IsRunFault (HasSomeLongRu
 HasFault Upgrade bytes fault = IsScriptFault bytes fault
 HasFault (Gen number) bytes fault = ⊥
 HasFault (Bench number threads) bytes fault = ⊥
+HasFault (Help page) bytes fault = ⊥

@@ -1,14 +1,14 @@
 -- What the program does with a command.
 use Rattle.std.specs.Prelude.{◌≡◌, ℕ, List, Bool, true, false}
 use Rattle.sto_args.specs.declared.command.Command.{Command}
-use Rattle.sto_args.specs.declared.command.Command.TheVariants.{Run, Step, Trace, Draw, Explore, Schedules, Upgrade, Gen, Bench}
+use Rattle.sto_args.specs.declared.command.Command.TheVariants.{Run, Step, Trace, Draw, Explore, Schedules, Upgrade, Gen, Bench, Help}
 use Rattle.sto_console.specs.Programs.{Program}
 use Rattle.sto_cli.specs.Orders.{same_by, IsExplored}
 use Rattle.sto_cli.specs.Outputs.{IsOutput, HasFault}
 use Rattle.sto_cli.specs.declared.told.Answer.{Answer}
 use Rattle.sto_cli.specs.declared.told.Answer.TheVariants.{Done, Found}
 
--- `run`, `step`, `trace`, `draw`, `explore`, `schedules` and `upgrade` read a script, `gen` and `bench` nothing
+-- `run`, `step`, `trace`, `draw`, `explore`, `schedules` and `upgrade` read a script, `gen`, `bench` and `--help` nothing
 abbrev pub reads_script : Command → Bool
 reads_script (Run threads tries json) = true
 reads_script (Step tries json schedule) = true
@@ -19,6 +19,7 @@ reads_script (Schedules switches tries json) = true
 reads_script Upgrade = true
 reads_script (Gen number) = false
 reads_script (Bench number threads) = false
+reads_script (Help page) = false
 
 -- `explore` answers whether an outcome was found that must never be; the others say no more than that all is done
 abbrev pub IsAnswer : Command → List ℕ → Answer → List ℕ → Type 0
@@ -31,6 +32,7 @@ IsAnswer (Schedules switches tries json) bytes answer text = (answer ≡ Done) �
 IsAnswer Upgrade bytes answer text = (answer ≡ Done) × IsOutput Upgrade bytes text
 IsAnswer (Gen number) bytes answer text = (answer ≡ Done) × IsOutput (Gen number) bytes text
 IsAnswer (Bench number threads) bytes answer text = (answer ≡ Done) × IsOutput (Bench number threads) bytes text
+IsAnswer (Help page) bytes answer text = (answer ≡ Done) × IsOutput (Help page) bytes text
 
 -- the exit status of an answer
 abbrev pub answer_status : Answer → ℕ

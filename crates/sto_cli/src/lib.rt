@@ -6,6 +6,7 @@
 mod answer;
 mod drawn;
 mod explored;
+mod help;
 mod scheduled;
 mod script;
 mod told;

@@ -1,11 +1,14 @@
 //! The top call.
-ghost use Rattle.std.specs.Prelude.{◌≡◌};
+ghost use Rattle.std.specs.Prelude.{◌≡◌, map, string_bytes};
 ghost use Rattle.sto_args.specs.Commands.{command_in};
+ghost use Rattle.sto_args.specs.HelpPages.{help_words};
+ghost use Rattle.sto_args.specs.declared.help.HelpPage.{HelpPage};
 ghost use Rattle.sto_console.specs.Said.{Says};
 ghost use Rattle.sto_console.specs.Statuses.{status_of, line_of, EndsWith};
 ghost use Rattle.sto_console.specs.Ends.{Ends};
 ghost use Rattle.sto_console.specs.Outcomes.{IsDone};
 ghost use Rattle.sto_console.specs.Causes.{HasCauses};
+ghost use Rattle.sto_cli.specs.Helps.{IsHelped};
 ghost use Rattle.sto_cli.specs.Programs.{program, answer_status};
 ghost use Rattle.sto_cli.specs.declared.told.Answer.TheVariants as answers;
 
@@ -56,6 +59,9 @@ pub fn sto<R: Threads + Sync, S: Source, K: Sink, E: Sink, G: Gate, W: Meter>(
     // With status 1 the same is so, and an outcome was found that must never be.
     ensures found { result ≡ 1
         → IsDone program answers.Found (command_in words.now) (S.left source.old) (S.left source.new) (K.held out.old) (K.held out.new) }
+    // With the words that ask for a page of help, that page alone was written, and nothing was read.
+    ensures help { (page : HelpPage) → map (λ word. string_bytes word) words.now ≡ help_words page
+        → IsHelped page result (S.left source.old) (S.left source.new) (K.held out.old) (K.held out.new) }
     // One outcome has this status and these effects, and its line is written beside.
     ensures ends { EndsWith answer_status result (λ outcome.
         Ends program outcome (command_in words.now) (S.left source.old) (S.left source.new) (K.held out.old) (K.held out.new)

@@ -1,16 +1,18 @@
 //! The order of work: the words, the source, the script, the run, the text, the writing.
-ghost use Rattle.std.specs.Prelude.{IfOk, IfErr};
+ghost use Rattle.std.specs.Prelude.{◌≡◌, false, Some, IfOk, IfErr};
 ghost use Rattle.sto_lang.specs.Sound.{IsFromTo};
 ghost use Rattle.sto_args.specs.Commands.{HasThreads, HasRange, command_in};
+ghost use Rattle.sto_args.specs.declared.command.Command.{Command};
 ghost use Rattle.sto_args.specs.declared.command.Command.TheVariants as commands;
 ghost use Rattle.sto_console.specs.declared.refusal.Refusal.TheVariants.{ReadFault, WriteFault};
 ghost use Rattle.sto_console.specs.Ends.{Made, Unmade, Ends, RoseFor};
-ghost use Rattle.sto_cli.specs.Programs.{program};
+ghost use Rattle.sto_cli.specs.Programs.{program, reads_script};
 ghost use Rattle.sto_cli.specs.declared.told.Answer.TheVariants.{Done};
 
 use crate::answer::{bench_text, gen_text, run_text, step_text, upgrade_text};
 use crate::drawn::draw_text;
 use crate::explored::explore_told;
+use crate::help::help_text;
 use crate::scheduled::schedules_text;
 use crate::told::{Answer, Told};
 use crate::traced::trace_text;
@@ -144,7 +146,7 @@ fn upgrade_source<S: Source>(alloc: Global, source: &mut S) -> Result<Text, Refu
 }
 
 /// Makes the whole text of a command. `run`, `step`, `trace`, `draw`, `explore`, `schedules` and `upgrade` read the source to its end or past the
-/// limit; `gen` and `bench` do not touch it.
+/// limit; `gen`, `bench` and `--help` do not touch it.
 fn told_for<R: Threads + Sync, S: Source, G: Gate, W: Meter>(
     rt: &R,
     alloc: Global,
@@ -156,6 +158,7 @@ fn told_for<R: Threads + Sync, S: Source, G: Gate, W: Meter>(
     requires { HasRange command }
     ensures made { IfOk result (λ told. Made program command told.answer (S.left source.old) (S.left source.new) told.text.items) }
     ensures unmade { IfErr result (λ e. Unmade program e command (S.left source.old) (S.left source.new)) }
+    ensures unread { reads_script command ≡ false → S.left source.new ≡ S.left source.old }
     ensures source_faults { RoseFor ReadFault result (S.faults source.old) (S.faults source.new) }
 {
     match command {
@@ -217,6 +220,10 @@ fn told_for<R: Threads + Sync, S: Source, G: Gate, W: Meter>(
                 text: bench_text(rt, alloc, number, threads, gate)?,
             })
         }
+        Command::Help { page } => Ok(Told {
+            answer: Answer::Done,
+            text: help_text(alloc, page)?,
+        }),
     }
 }
 
@@ -232,6 +239,7 @@ pub(crate) fn perform<R: Threads + Sync, S: Source, K: Sink, G: Gate, W: Meter>(
     meter: &W,
 ) -> Result<Answer, Refusal>
     ensures ends { Ends program result (command_in words.now) (S.left source.old) (S.left source.new) (K.held out.old) (K.held out.new) }
+    ensures unread { (command : Command) → command_in words.now ≡ Some command → reads_script command ≡ false → S.left source.new ≡ S.left source.old }
     ensures source_faults { RoseFor ReadFault result (S.faults source.old) (S.faults source.new) }
     ensures out_faults { RoseFor WriteFault result (K.faults out.old) (K.faults out.new) }
 {

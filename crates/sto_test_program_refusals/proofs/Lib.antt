@@ -15,3 +15,4 @@ pub mod Questions
 pub mod Deeds
 pub mod PlainDeeds
 pub mod MadeDeeds
+pub mod Helps

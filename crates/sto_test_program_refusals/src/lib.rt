@@ -16,4 +16,6 @@ mod sto;
 pub use check::not_found;
 pub use feed::not_fed;
 pub use steps::{no_deed, no_run};
-pub use sto::{not_asked, not_ended, not_generated, not_run, not_scheduled, not_stepped};
+pub use sto::{
+    not_asked, not_ended, not_generated, not_helped, not_run, not_scheduled, not_stepped,
+};

@@ -7,7 +7,10 @@ ghost use Rattle.sto_lang.specs.declared.fault.ScriptFault.{ScriptFault};
 ghost use Rattle.sto_lang.specs.Drafts.{transaction_count};
 ghost use Rattle.sto_orders.specs.Causes.{least_told};
 ghost use Rattle.sto_args.specs.declared.command.Command.{Command};
-ghost use Rattle.sto_args.specs.declared.command.Command.TheVariants.{Run, Step, Trace, Draw, Explore, Schedules, Upgrade, Gen, Bench};
+ghost use Rattle.sto_args.specs.declared.command.Command.TheVariants.{Run, Step, Trace, Draw, Explore, Schedules, Upgrade, Gen, Bench, Help};
+ghost use Rattle.sto_args.specs.declared.help.HelpPage.{HelpPage};
+ghost use Rattle.sto_args.specs.declared.help.HelpPage.TheVariants as pages;
+ghost use Rattle.sto_args.specs.Commands.{command_of};
 ghost use Rattle.sto_args.specs.declared.command.Asked.{Asked};
 ghost use Rattle.sto_args.specs.declared.command.Asked.TheVariants.{Where, Never};
 ghost use Rattle.sto_args.specs.declared.command.By.{By};
@@ -29,6 +32,7 @@ ghost use Rattle.sto_run_orders.specs.declared.report.OrderReport.{OrderReport};
 ghost use Rattle.sto_run_orders.specs.Asked.{is_true_in, asked_of};
 ghost use Rattle.sto_cli.specs.declared.told.Answer.{Answer};
 ghost use Rattle.sto_draw.specs.Drawn.{IsPicture};
+ghost use Rattle.sto_cli.specs.Helps.{IsHelped};
 ghost use Rattle.sto_cli.specs.Outputs.{IsOutput};
 ghost use Rattle.sto_cli.specs.declared.told.Answer.TheVariants.{Done, Found};
 ghost use Rattle.sto_cli.specs.Orders.{IsExplored};
@@ -146,6 +150,24 @@ pub fn not_generated()
     // A summary of which the accounts hold 1 less than all, and one of which a transaction is left out.
     ensures one_less { (threads : Option ℕ) (bytes : List ℕ) → IsOutput (Bench 1 threads) bytes one_less → ⊥ }
     ensures one_left_out { (threads : Option ℕ) (bytes : List ℕ) → IsOutput (Bench 1 threads) bytes one_left_out → ⊥ }
+{}
+
+/// What `--help` does not print, how a call that asks for it does not end, and which words do not ask for it.
+pub fn not_helped()
+    // Nothing, and the page of another command.
+    ensures nothing { (page : HelpPage) (bytes : List ℕ) → IsOutput (Help page) bytes [] → ⊥ }
+    ensures other_page { (bytes text : List ℕ) → IsOutput (Help pages.Run) bytes text → IsOutput (Help pages.Step) bytes text → ⊥ }
+    // With the status of words that are none.
+    ensures usage { (page : HelpPage) (left rest held now : Option (List ℕ)) → IsHelped page 2 left rest held now → ⊥ }
+    // With status 0 and nothing written, and after a byte was read.
+    ensures silent { (page : HelpPage) (left rest : Option (List ℕ)) (held : List ℕ) → IsHelped page 0 left rest (Some held) (Some held) → ⊥ }
+    ensures read { (page : HelpPage) (status byte : ℕ) (bytes : List ℕ) (held now : Option (List ℕ))
+        → IsHelped page status (Some (byte ∷ bytes)) (Some bytes) held now → ⊥ }
+    // Words that name the command before, ask twice, name none, or say more.
+    ensures behind { command_of (codes "run" ∷ codes "--help" ∷ []) ≡ None }
+    ensures twice { command_of (codes "--help" ∷ codes "--help" ∷ []) ≡ None }
+    ensures nonsense { command_of (codes "--help" ∷ codes "nonsense" ∷ []) ≡ None }
+    ensures more { command_of (codes "--help" ∷ codes "run" ∷ codes "--json" ∷ []) ≡ None }
 {}
 
 /// How a call with words that are a command does not end.

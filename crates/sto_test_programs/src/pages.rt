@@ -7,10 +7,11 @@ use std::{fs, io};
 use sto_cli::NoGate;
 
 /// The pages that show runs. The examples that they name lie beside them.
-pub const PAGES: [&str; 10] = [
+pub const PAGES: [&str; 11] = [
     "language.md",
     "report.md",
     "statuses.md",
+    "help.md",
     "mistakes.md",
     "steps.md",
     "cases.md",
@@ -29,34 +30,32 @@ fn redirected<'a>(command: &'a str, arrow: &str) -> Option<(&'a str, &'a str)> {
     Some((words, file))
 }
 
-// What a command does with the script that it names, or else with the one that the page shows.
-fn outcome_with<R: Threads + Sync>(
+// What the words do with the file that they name, and else with the script.
+fn run_of<R: Threads + Sync>(
     rt: &HostRuntime,
     threads: &R,
     command: &str,
     script: &str,
 ) -> io::Result<Outcome> {
-    let outcome = match redirected(command, " < ") {
-        Some((words, file)) => {
-            let named = fs::read_to_string(rt, file)?;
-            outcome_of(threads, rt.alloc(), words, named.as_str(), &NoGate)?
-        }
-        None => outcome_of(threads, rt.alloc(), command, script, &NoGate)?,
+    let Some((words, file)) = redirected(command, " < ") else {
+        return Ok(outcome_of(threads, rt.alloc(), command, script, &NoGate)?);
     };
-    Ok(outcome)
+    let script = fs::read_to_string(rt, file)?;
+    Ok(outcome_of(threads, rt.alloc(), words, script.as_str(), &NoGate)?)
 }
 
-// Whether a command writes what stands in a file, and nothing beside.
-fn is_as_stored<R: Threads + Sync>(
-    rt: &HostRuntime,
-    threads: &R,
-    command: &str,
-    script: &str,
-    file: &str,
-) -> io::Result<bool> {
+// Whether a run writes what stands in a file, and nothing beside.
+fn is_as_stored(rt: &HostRuntime, outcome: &Outcome, file: &str) -> io::Result<bool> {
     let stored = fs::read_to_string(rt, file)?;
-    let outcome = outcome_with(rt, threads, command, script)?;
     Ok(outcome.status == 0 && outcome.said.is_empty() && outcome.written == stored)
+}
+
+// Whether a page shows a text, or its beginning above a line of three dots.
+fn shows(page: &str, text: &str) -> bool {
+    match page.strip_suffix("...\n") {
+        Some(front) => text.starts_with(front),
+        None => text == page,
+    }
 }
 
 // Whether a run writes what the page shows, with the status where the page shows it, and else with status 0.
@@ -68,15 +67,16 @@ fn is_as_shown<R: Threads + Sync>(
     let shown = example.command.as_str();
     let script = example.script.as_str();
     if let Some((command, file)) = redirected(shown, " > ") {
-        return is_as_stored(rt, threads, command, script, file);
+        let outcome = run_of(rt, threads, command, script)?;
+        return is_as_stored(rt, &outcome, file);
     }
     let asked = shown.strip_suffix("; echo $?");
-    let outcome = outcome_with(rt, threads, asked.unwrap_or(shown), script)?;
-    let shown = outcome.shown(rt.alloc())?;
+    let outcome = run_of(rt, threads, asked.unwrap_or(shown), script)?;
+    let text = outcome.shown(rt.alloc())?;
     if asked.is_none() {
-        return Ok(outcome.status == 0 && shown == example.output);
+        return Ok(outcome.status == 0 && shows(example.output.as_str(), text.as_str()));
     }
-    let whole = format!(in rt.alloc(); "{shown}{}\n", outcome.status)?;
+    let whole = format!(in rt.alloc(); "{text}{}\n", outcome.status)?;
     Ok(whole == example.output)
 }
 

@@ -1,6 +1,6 @@
 //! Words that are commands, and words that are not.
 use std::alloc::{AllocError, Global};
-use sto_args::{Asked, By, Command, GivenText, find_command};
+use sto_args::{Asked, By, Command, GivenText, HelpPage, find_command};
 
 fn words_of(alloc: Global, words: &[&str]) -> Result<Vec<String>, AllocError> {
     let mut texts = Vec::new(alloc);
@@ -64,6 +64,12 @@ const COMMANDS: &[(&[&str], Numbers)] = &[
     ),
     (&["bench", "1"], ("bench", 0, 1, false)),
     (&["bench", "--threads", "4", "7"], ("bench", 4, 7, false)),
+    (&["--help"], ("help", 0, HelpPage::Program as u64, false)),
+    (&["--help", "run"], ("help", 0, HelpPage::Run as u64, false)),
+    (
+        &["--help", "bench"],
+        ("help", 0, HelpPage::Bench as u64, false),
+    ),
 ];
 
 // The commands of the program, with their options in both forms.
@@ -118,6 +124,7 @@ fn numbers_of(command: &Command) -> Numbers {
             *number,
             false,
         ),
+        Command::Help { page } => ("help", 0, *page as u64, false),
     }
 }
 
@@ -255,7 +262,19 @@ const NO_COMMANDS: &[&[&str]] = &[
     &["bench", "1", "--tries", "2"],
     &["bench", "--json", "1"],
     &["Run"],
-    &["--help"],
+    &["--help", "--help"],
+    &["--help", "nonsense"],
+    &["--help", "run", "step"],
+    &["--help", "run", "--json"],
+    &["--help", ""],
+    &["--help", "Run"],
+    &["--help", "--json"],
+    &["--help", "check"],
+    &["--help=run"],
+    &["--Help"],
+    &["-h"],
+    &["help"],
+    &["--version"],
 ];
 
 #[test]

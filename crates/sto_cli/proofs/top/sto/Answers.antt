@@ -1,11 +1,13 @@
-use Rattle.sto_args.specs.Commands.{command_in}
+use Rattle.sto_args.specs.Commands.{command_of, command_in}
 use Rattle.sto_console.proofs.Endings.{ended, read_so, write_so}
 use Rattle.sto_console.proofs.Causes.{causes}
-use Rattle.std.proofs.Common.{◌∙◌, sym}
+use Rattle.std.proofs.Common.{◌∙◌, refl, sym, ap}
+use Rattle.sto_args.specs.declared.command.Command.TheVariants.{Help}
 use Rattle.sto_console.specs.Outcomes.{IsDone}
 use Rattle.sto_cli.specs.declared.told.Answer.TheVariants.{Done, Found}
 use Rattle.sto_cli.specs.Programs.{program, answer_status}
 use Rattle.sto_cli.proofs.Exclusive.{exclusive, few_statuses, by_done, by_found}
+use Rattle.sto_cli.proofs.Helped.{asked, helped}
 use Rattle.sto_cli.proofs.top.sto.Goals as goal
 
 pub returns : goal.returns
@@ -28,6 +30,9 @@ returns g c =
     record {
       headline = λ zero. let told = so.done (Done, zero) in by_done (λ answer. IsDone program answer command left rest held now) told.0 (sym told.1 ∙ zero) told.2;
       found = λ one. let told = so.done (Found, one) in by_found (λ answer. IsDone program answer command left rest held now) told.0 (sym told.1 ∙ one) told.2;
+      help = λ page asks.
+          let is = ap command_of asks ∙ asked page in
+          helped page left rest held now (c.perform-outcome.ensures.unread (Help page) is refl) command is c.say.result status c.status.ensures ends;
       ends = (c.say.result, c.status.ensures, (ends, c.say.ensures.says));
       causes = so;
     }
