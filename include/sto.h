@@ -1,7 +1,7 @@
 /* Transactions over shared objects, for C programs.
  *
  * A program opens a store of objects, gives each of its threads a worker of the store, and each worker runs transactions: calls
- * on the objects that take effect as a whole, in one order of all transactions, or not at all. docs/c.md is the guide.
+ * on the objects that take effect as a whole, in one order of all transactions, or not at all. docs/c/calls.md is the guide.
  *
  * Who owns what. A handle (sto_handle) is memory of the program, and owns what lies behind it. A handle that is all zero
  * (STO_NONE) holds nothing: it is what sto_open and sto_worker ask for, and what sto_free and sto_give_back leave. Never copy
@@ -13,7 +13,7 @@
  * Nothing here blocks, sleeps or starts a thread. No function may be called from a signal handler, or in a child that a
  * program with threads has forked.
  *
- * What is said here of time is by how the code works, and no clause speaks of it. docs/c.md names the clauses of all else, which hold
+ * What is said here of time is by how the code works, and no clause speaks of it. docs/c/proved.md names the clauses of all else, which hold
  * on the proved library (sto_build); of the plain one nothing is proved.
  *
  * Every number that is given is tested: what will not do is answered by a status. Where several things are wrong, the status tells

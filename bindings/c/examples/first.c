@@ -18,7 +18,7 @@ int main(void)
     alice = sto_new_box(store, 100), bob = sto_new_box(store, 0);
     int64_t amount = 30;
     uint32_t status = sto_store_open(store, 4); /* four transactions at a time */
-    if (!status) status = sto_atomically(store, pay, &amount, NULL, NULL); /* no policy; its place is not asked */
+    if (!status) status = sto_atomically(store, pay, &amount, NULL, NULL); /* no policy, no place to be told */
     printf("%s, on the %s library\n", sto_status_text(status), sto_build());
     sto_store_free(store);
 }
