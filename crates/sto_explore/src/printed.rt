@@ -10,7 +10,7 @@ use std::alloc::Global;
 use sto_lang::{File, Text};
 use sto_part::NoMemory;
 
-/// What `explore` prints of these outcomes of a file, as text or as one line of JSON.
+/// What `schedules` prints of these outcomes of a file, as text or as one line of JSON.
 ///
 /// `NoMemory` comes also where a leg has 2^32 turns or more, and where the text of an outcome is not ASCII.
 pub fn outcomes_text(

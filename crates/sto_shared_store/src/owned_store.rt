@@ -53,7 +53,7 @@ pub enum HireError {
 pub enum OwnedCloseError<T: TxType + Drop> {
     /// Not all its workers rest in it. Here it is.
     Missing(OwnedStore<T>),
-    /// All its workers rest in it, and a call that gave one back has not let the store go yet. Here it is.
+    /// All its workers rest in it, and something else still holds the store, as a call that just gave one back may. Here it is.
     Busy(OwnedStore<T>),
     /// Memory was wanting. The store is lost.
     NoMemory,
@@ -187,7 +187,8 @@ impl<T: TxType + Drop> OwnedStore<T> {
     }
 
     /// Closes the store, in which all its workers rest, and answers the rows that its objects hold: the last state of a serial
-    /// history of all that its workers have done. Where not all rest in it, or one is just being given back, it comes back as it was.
+    /// history of all that its workers have done. Where not all rest in it, or one is just being given back, it comes back as it was; for want
+    /// of memory it is lost.
     pub fn close(self, alloc: Global) -> Result<State, OwnedCloseError<T>>
         requires { IsOwnedStore T.TxType self }
         ensures rows { IfOk result (λ rows. AreRowsAfter T.valid (T.meaning (arc_value self.store).ty)
