@@ -35,7 +35,7 @@ impl<'t, T: TxType, B: Body> Attempt<'t, T, B> {
     ///
     /// The type is to take every call that the body may ask. The table is worked on in place; its end puts it back.
     #[inline(always)]
-    pub fn new(ty: &'t T, body: B, table: Table) -> Attempt<'t, T, B>
+    pub fn new(ty: &'t T, body: B, table: Box<Table>) -> Attempt<'t, T, B>
         requires { (call : Call) → B.may_ask body call → (T.meaning ty.now).takes call }
         ensures { IsNew T.TxType B.Body ty.now body result }
     {
@@ -221,7 +221,7 @@ impl<'t, T: TxType, B: Body> Attempt<'t, T, B> {
             return Err(NoMemory);
         }
         let ty = self.log.ty;
-        let table = &mut self.log.table;
+        let table = &mut *self.log.table;
         let words = table.words.as_slice();
         table.base.push(part, ticket, words)?;
         // What was just read is known at once, so that the call is not planned once more only to ask for it.
@@ -259,7 +259,7 @@ impl<'t, T: TxType, B: Body> Attempt<'t, T, B> {
             return Ok(Turn::More);
         }
         self.at = self.log.table.extension.bound;
-        let table = &mut self.log.table;
+        let table = &mut *self.log.table;
         mem::swap(&mut table.base, &mut table.extension.fresh);
         table.extension.fresh.clear();
         table.cache.forget();
@@ -299,7 +299,7 @@ impl<'t, T: TxType, B: Body> Attempt<'t, T, B> {
         requires { IsUnderWay T.TxType B.Body (Rechecking part) self.old (C.view cells.old) }
         ensures { HasStepped T.TxType B.Body C.Cells (Rechecking part) (Recheck part) self.old self.new cells.old cells.new result }
     {
-        let table = &mut self.log.table;
+        let table = &mut *self.log.table;
         let Some(read_entry) = table.base.find(part) else {
             unreachable!()
         };
@@ -396,7 +396,7 @@ impl<'t, T: TxType, B: Body> Attempt<'t, T, B> {
             }));
         }
         let ty = self.log.ty;
-        let table = &mut self.log.table;
+        let table = &mut *self.log.table;
         let place = table.extension.fresh.len();
         let watch = table.extension.watches.get(place);
         if !are_true(ty, watch.preds.as_slice(), table.words.as_slice()) {

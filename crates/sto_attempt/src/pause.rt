@@ -11,7 +11,7 @@ use sto_type::TxType;
 #[derive(Drop)]
 pub struct Paused<B: Body> {
     pub(crate) body: B,
-    pub(crate) table: Table,
+    pub(crate) table: Box<Table>,
     pub(crate) at: u64,
     pub(crate) read_phase: ReadPhase,
 }

@@ -225,7 +225,7 @@ impl<T: TxType, B: Body> Ready<'_, T, B> {
     pub(crate) fn all_so(&self, part: u32) -> bool
         ensures { result ≡ list_all (is_so part (lists_of self.now).loaded_words.items) self.now.log.table.set.items }
     {
-        let table = &self.log.table;
+        let table = &*self.log.table;
         table
             .set
             .all_so(self.log.ty, &table.lists.loaded_words, part)

@@ -6,6 +6,7 @@ use std::alloc::Global;
 use std::marker::Model;
 use std::mem;
 use sto_model::Replies;
+use sto_part::NoMemory;
 
 /// The lists of attempts while no attempt uses them, with the room that earlier ones have made.
 ///
@@ -14,7 +15,7 @@ use sto_model::Replies;
 pub struct AttemptLists {
     alloc: Global,
     // None before the first attempt, and while one has them. After want of memory they are lost, and the next attempt begins with none.
-    table: Option<Table>,
+    table: Option<Box<Table>>,
 }
 
 impl Drop for AttemptLists {
@@ -39,16 +40,19 @@ impl AttemptLists {
     }
 
     /// Takes the table of an attempt. Where there is none, it makes one whose lists have no room yet.
-    pub fn take(&mut self) -> Table {
+    pub fn take(&mut self) -> Result<Box<Table>, NoMemory> {
         match mem::replace(&mut self.table, None) {
-            Some(table) => table,
-            None => Table::new(self.alloc),
+            Some(table) => Ok(table),
+            None => match Box::new(self.alloc, Table::new(self.alloc)) {
+                Ok(table) => Ok(table),
+                Err(_) => Err(NoMemory),
+            },
         }
     }
 
     /// Keeps the table of an attempt that has ended, and answers its replies.
-    pub fn keep(&mut self, table: Table) -> Replies
-        ensures { result ≡ table.replies }
+    pub fn keep(&mut self, table: Box<Table>) -> Replies
+        ensures { result ≡ table.value.replies }
     {
         let mut table = table;
         let replies = mem::replace(&mut table.replies, Replies::new(self.alloc));

@@ -30,7 +30,7 @@ pub enum Reached {
 pub struct Log<'t, T: TxType, B: Body> {
     pub ty: &'t T,
     pub body: B,
-    pub table: Table,
+    pub table: Box<Table>,
 }
 
 impl<T: TxType, B: Body> Log<'_, T, B> {
@@ -43,7 +43,7 @@ impl<T: TxType, B: Body> Log<'_, T, B> {
         loop {
             match self.body.next() {
                 Next::Ask(call) => {
-                    let table = &mut self.table;
+                    let table = &mut *self.table;
                     match ask(
                         alloc,
                         self.ty,
@@ -72,7 +72,7 @@ impl<T: TxType, B: Body> Log<'_, T, B> {
             (replies_of self.old) self.old.table.said }
         ensures { HasTakenIn T.TxType B.Body self.old self.new result }
     {
-        let table = &mut self.table;
+        let table = &mut *self.table;
         add_items(&mut table.set, &table.said.items)?;
         add_updates(&mut table.set, &table.said.updates)?;
         refresh(

@@ -59,7 +59,7 @@ impl<'t, T: TxType> Live<'t, T> {
         ensures same { C.same cells.old cells.new }
     {
         let body = AskedCalls::over(lists.take_calls());
-        let mut attempt = Attempt::new(ty, body, lists.attempts.take());
+        let mut attempt = Attempt::new(ty, body, lists.attempts.take()?);
         attempt.begin(alloc, cells)?;
         Ok(Live { ty, attempt })
     }

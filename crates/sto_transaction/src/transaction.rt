@@ -129,7 +129,7 @@ fn run_attempt<T: TxType, B: Body + Drop, C: Cells<T>, W: AttemptWatch>(
     ensures steps { (C.view cells.new).steps ≤ (C.view cells.old).steps + most_steps (T.meaning ty.now) (B.left_at_reset body) }
     ensures same { C.same cells.old cells.new }
 {
-    let mut machine = Machine::new(ty, body, lists.take());
+    let mut machine = Machine::new(ty, body, lists.take()?);
     let ended = finish(alloc, &mut machine, cells, watch, lists);
     mem::drop(machine);
     ended
