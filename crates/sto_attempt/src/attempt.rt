@@ -11,7 +11,7 @@ ghost use Rattle.sto_attempt.specs.Attempts.{IsNew, IsOwnLog, IsUnderWay, IsBefo
 use std::alloc::Global;
 use std::mem;
 use sto_attempt_log::{
-    AttemptLists, Heard, Log, ReadPhase, Table, Turn, Verdict, lead, learn_updated,
+    AttemptLists, BoxedTable, Heard, Log, ReadPhase, Turn, Verdict, lead, learn_updated,
 };
 use sto_core::Cells;
 use sto_model::{Body, Replies};
@@ -35,7 +35,7 @@ impl<'t, T: TxType, B: Body> Attempt<'t, T, B> {
     ///
     /// The type is to take every call that the body may ask. The table is worked on in place; its end puts it back.
     #[inline(always)]
-    pub fn new(ty: &'t T, body: B, table: Box<Table>) -> Attempt<'t, T, B>
+    pub fn new(ty: &'t T, body: B, table: BoxedTable) -> Attempt<'t, T, B>
         requires { (call : Call) → B.may_ask body call → (T.meaning ty.now).takes call }
         ensures { IsNew T.TxType B.Body ty.now body result }
     {

@@ -1,7 +1,7 @@
 //! The lists that a worker lends to one attempt after the other.
 ghost use Rattle.std.specs.Prelude.{◌≡◌};
 
-use crate::table::Table;
+use crate::boxed_table::BoxedTable;
 use std::alloc::Global;
 use std::marker::Model;
 use std::mem;
@@ -15,7 +15,7 @@ use sto_part::NoMemory;
 pub struct AttemptLists {
     alloc: Global,
     // None before the first attempt, and while one has them. After want of memory they are lost, and the next attempt begins with none.
-    table: Option<Box<Table>>,
+    table: Option<BoxedTable>,
 }
 
 impl Drop for AttemptLists {
@@ -40,19 +40,16 @@ impl AttemptLists {
     }
 
     /// Takes the table of an attempt. Where there is none, it makes one whose lists have no room yet.
-    pub fn take(&mut self) -> Result<Box<Table>, NoMemory> {
+    pub fn take(&mut self) -> Result<BoxedTable, NoMemory> {
         match mem::replace(&mut self.table, None) {
             Some(table) => Ok(table),
-            None => match Box::new(self.alloc, Table::new(self.alloc)) {
-                Ok(table) => Ok(table),
-                Err(_) => Err(NoMemory),
-            },
+            None => BoxedTable::new(self.alloc),
         }
     }
 
     /// Keeps the table of an attempt that has ended, and answers its replies.
-    pub fn keep(&mut self, table: Box<Table>) -> Replies
-        ensures { result ≡ table.value.replies }
+    pub fn keep(&mut self, table: BoxedTable) -> Replies
+        ensures { result ≡ table.replies }
     {
         let mut table = table;
         let replies = mem::replace(&mut table.replies, Replies::new(self.alloc));

@@ -3,8 +3,8 @@ ghost use Rattle.sto_type.specs.Known.{known};
 ghost use Rattle.sto_attempt_log.specs.Says.{SaysNext};
 ghost use Rattle.sto_attempt_log.specs.Going.{CanBe, IsInOrder, HasRunOn, HasTakenIn, replies_of};
 
+use crate::boxed_table::BoxedTable;
 use crate::recall::{add_items, add_updates, ask, refresh};
-use crate::table::Table;
 use std::alloc::Global;
 use std::mem;
 use sto_model::{Body, Next, Reply};
@@ -30,7 +30,7 @@ pub enum Reached {
 pub struct Log<'t, T: TxType, B: Body> {
     pub ty: &'t T,
     pub body: B,
-    pub table: Box<Table>,
+    pub table: BoxedTable,
 }
 
 impl<T: TxType, B: Body> Log<'_, T, B> {
