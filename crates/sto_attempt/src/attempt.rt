@@ -155,6 +155,7 @@ impl<'t, T: TxType, B: Body> Attempt<'t, T, B> {
         ensures log { self.new.log ≡ with_words self.old.log self.new.log.table.words }
         ensures extension { self.new.log.table.extension ≡ self.old.log.table.extension }
     {
+        let table = &mut *self.log.table;
         let found = cells.open(part);
         if found.is_locked() {
             self.read_phase = ReadPhase::Over;
@@ -163,11 +164,11 @@ impl<'t, T: TxType, B: Body> Attempt<'t, T, B> {
         let ticket = found.ticket();
         if ticket <= self.at {
             let ty = self.log.ty;
-            make_room(&mut self.log.table.words, ty.width(part));
+            make_room(&mut table.words, ty.width(part));
             self.read_phase = ReadPhase::Reading { part, ticket };
             return Turn::More;
         }
-        if self.log.table.extension.extended {
+        if table.extension.extended {
             self.read_phase = ReadPhase::Over;
             return Turn::Ended(Verdict::Changed {
                 at: self.at,
@@ -184,8 +185,9 @@ impl<'t, T: TxType, B: Body> Attempt<'t, T, B> {
         requires { IsBeforeWord T.TxType B.Body (Reading part ticket) part self.old (C.view cells.old) }
         ensures { HasReadWord T.TxType B.Body C.Cells (Reading part ticket) part self.old self.new cells.old cells.new result }
     {
-        let value = cells.word(part, self.log.table.words.len());
-        self.log.table.words.push(value)?;
+        let table = &mut *self.log.table;
+        let value = cells.word(part, table.words.len());
+        table.words.push(value)?;
         Ok(Turn::More)
     }
 
@@ -217,11 +219,11 @@ impl<'t, T: TxType, B: Body> Attempt<'t, T, B> {
                 ticket: newer,
             }));
         }
-        if self.log.table.base.len() == u32::MAX {
-            return Err(NoMemory);
-        }
         let ty = self.log.ty;
         let table = &mut *self.log.table;
+        if table.base.len() == u32::MAX {
+            return Err(NoMemory);
+        }
         let words = table.words.as_slice();
         table.base.push(part, ticket, words)?;
         // What was just read is known at once, so that the call is not planned once more only to ask for it.
@@ -236,8 +238,9 @@ impl<'t, T: TxType, B: Body> Attempt<'t, T, B> {
         let extended = table.extension.extended;
         let heard = table.replies.len();
         let reached = self.log.go_on(alloc)?;
-        let (read_phase, turn) = lead(&self.log.table.set, self.at, reached);
-        self.log.table.extension.extended = still(extended, heard, self.log.table.replies.len());
+        let table = &mut *self.log.table;
+        let (read_phase, turn) = lead(&table.set, self.at, reached);
+        table.extension.extended = still(extended, heard, table.replies.len());
         self.read_phase = read_phase;
         Ok(turn)
     }
@@ -247,9 +250,10 @@ impl<'t, T: TxType, B: Body> Attempt<'t, T, B> {
         requires { IsExtending T.TxType B.Body self.old }
         ensures { HasGoneOn T.TxType B.Body self.old self.new result }
     {
-        let place = self.log.table.extension.fresh.len();
-        if place < self.log.table.extension.watches.len() {
-            let watch = self.log.table.extension.watches.get(place);
+        let table = &mut *self.log.table;
+        let place = table.extension.fresh.len();
+        if place < table.extension.watches.len() {
+            let watch = table.extension.watches.get(place);
             let part = watch.part;
             if watch.seen {
                 self.read_phase = ReadPhase::Rechecking { part };
@@ -258,16 +262,16 @@ impl<'t, T: TxType, B: Body> Attempt<'t, T, B> {
             }
             return Ok(Turn::More);
         }
-        self.at = self.log.table.extension.bound;
-        let table = &mut *self.log.table;
+        self.at = table.extension.bound;
         mem::swap(&mut table.base, &mut table.extension.fresh);
         table.extension.fresh.clear();
         table.cache.forget();
         let extended = table.extension.extended;
         let heard = table.replies.len();
         let reached = self.log.go_on(alloc)?;
-        let (read_phase, turn) = lead(&self.log.table.set, self.at, reached);
-        self.log.table.extension.extended = still(extended, heard, self.log.table.replies.len());
+        let table = &mut *self.log.table;
+        let (read_phase, turn) = lead(&table.set, self.at, reached);
+        table.extension.extended = still(extended, heard, table.replies.len());
         self.read_phase = read_phase;
         Ok(turn)
     }
@@ -279,9 +283,10 @@ impl<'t, T: TxType, B: Body> Attempt<'t, T, B> {
         // (whichever part it is for)
         ensures { HasStepped T.TxType B.Body C.Cells (Renewing 0 0) Renew self.old self.new cells.old cells.new result }
     {
+        let table = &mut *self.log.table;
         let bound = cells.renew();
-        let watches = self.log.table.set.observed()?;
-        let extension = &mut self.log.table.extension;
+        let watches = table.set.observed()?;
+        let extension = &mut table.extension;
         extension.fresh.clear();
         extension.bound = bound;
         extension.watches = watches;
@@ -334,13 +339,14 @@ impl<'t, T: TxType, B: Body> Attempt<'t, T, B> {
         ensures log { self.new.log ≡ with_words self.old.log self.new.log.table.words }
         ensures extension { self.new.log.table.extension ≡ self.old.log.table.extension }
     {
+        let table = &mut *self.log.table;
         let found = cells.open(part);
         if found.is_locked() {
             self.read_phase = ReadPhase::Over;
             return Turn::Ended(Verdict::Locked { at: self.at, part });
         }
         let ticket = found.ticket();
-        if ticket > self.log.table.extension.bound {
+        if ticket > table.extension.bound {
             self.read_phase = ReadPhase::Over;
             return Turn::Ended(Verdict::Changed {
                 at: self.at,
@@ -349,7 +355,7 @@ impl<'t, T: TxType, B: Body> Attempt<'t, T, B> {
             });
         }
         let ty = self.log.ty;
-        make_room(&mut self.log.table.words, ty.width(part));
+        make_room(&mut table.words, ty.width(part));
         self.read_phase = ReadPhase::Rereading { part, ticket };
         Turn::More
     }
@@ -364,8 +370,9 @@ impl<'t, T: TxType, B: Body> Attempt<'t, T, B> {
         requires { IsBeforeWord T.TxType B.Body (Rereading part ticket) part self.old (C.view cells.old) }
         ensures { HasReadWord T.TxType B.Body C.Cells (Rereading part ticket) part self.old self.new cells.old cells.new result }
     {
-        let value = cells.word(part, self.log.table.words.len());
-        self.log.table.words.push(value)?;
+        let table = &mut *self.log.table;
+        let value = cells.word(part, table.words.len());
+        table.words.push(value)?;
         Ok(Turn::More)
     }
 
@@ -381,6 +388,7 @@ impl<'t, T: TxType, B: Body> Attempt<'t, T, B> {
         requires all { length self.old.log.table.words.items ≡ part_width T.TxType B.Body self.old part }
         ensures { HasStepped T.TxType B.Body C.Cells (Rereading part ticket) (Close part) self.old self.new cells.old cells.new result }
     {
+        let table = &mut *self.log.table;
         let found = cells.close(part);
         if found.is_locked() {
             self.read_phase = ReadPhase::Over;
@@ -396,7 +404,6 @@ impl<'t, T: TxType, B: Body> Attempt<'t, T, B> {
             }));
         }
         let ty = self.log.ty;
-        let table = &mut *self.log.table;
         let place = table.extension.fresh.len();
         let watch = table.extension.watches.get(place);
         if !are_true(ty, watch.preds.as_slice(), table.words.as_slice()) {

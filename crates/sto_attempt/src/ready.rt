@@ -81,17 +81,18 @@ impl<T: TxType, B: Body> Ready<'_, T, B> {
         requires { IsBefore T.TxType B.Body (Locking place) self.old (C.view cells.old) }
         ensures { HasAdvanced T.TxType B.Body C.Cells (Locking place) self.old self.new cells.old cells.new result }
     {
-        let part = self.log.table.lists.updates.get(place).0;
+        let table = &mut *self.log.table;
+        let part = table.lists.updates.get(place).0;
         let found = cells.lock(part);
         if found.is_locked() {
             let verdict = Verdict::Locked { at: self.at, part };
             return self.give_up(place, verdict);
         }
         let ticket = found.ticket();
-        let lists = &mut self.log.table.lists;
+        let lists = &mut table.lists;
         lists.found_tickets.push_spare(FoundTicket { part, ticket });
         let next = place + 1;
-        self.commit_phase = if next < self.log.table.lists.updates.len() {
+        self.commit_phase = if next < table.lists.updates.len() {
             CommitPhase::Locking { place: next }
         } else {
             self.aim(0)
@@ -104,12 +105,13 @@ impl<T: TxType, B: Body> Ready<'_, T, B> {
         requires { place ≤ length (lists_of self.now).tasks.items }
         ensures { IsAim (lists_of self.now).updates.items (lists_of self.now).tasks.items place result }
     {
-        if place == self.log.table.lists.tasks.len() {
+        let table = &*self.log.table;
+        if place == table.lists.tasks.len() {
             return CommitPhase::Drawing;
         }
         if is_written(
-            self.log.table.lists.updates.as_slice(),
-            *self.log.table.lists.tasks.get(place),
+            table.lists.updates.as_slice(),
+            *table.lists.tasks.get(place),
         ) {
             CommitPhase::Loading { place, word: 0 }
         } else {
@@ -127,10 +129,11 @@ impl<T: TxType, B: Body> Ready<'_, T, B> {
         requires { IsBefore T.TxType B.Body (Loading place word) self.old (C.view cells.old) }
         ensures { HasAdvanced T.TxType B.Body C.Cells (Loading place word) self.old self.new cells.old cells.new result }
     {
-        let part = *self.log.table.lists.tasks.get(place);
+        let table = &mut *self.log.table;
+        let part = *table.lists.tasks.get(place);
         let width = self.log.ty.width(part);
         let value = cells.word(part, word);
-        let lists = &mut self.log.table.lists;
+        let lists = &mut table.lists;
         lists
             .loaded_words
             .push_spare(LoadedWord { part, word, value });
@@ -145,7 +148,8 @@ impl<T: TxType, B: Body> Ready<'_, T, B> {
             self.commit_phase = self.aim(place + 1);
             return None;
         }
-        let ticket = self.log.table.lists.found_tickets.ticket(part);
+        let table = &*self.log.table;
+        let ticket = table.lists.found_tickets.ticket(part);
         let verdict = Verdict::Changed {
             at: self.at,
             part,
@@ -153,7 +157,7 @@ impl<T: TxType, B: Body> Ready<'_, T, B> {
         };
         self.commit_phase = CommitPhase::Leaving {
             place: 0,
-            end: self.log.table.lists.updates.len(),
+            end: table.lists.updates.len(),
             verdict,
         };
         None
@@ -164,7 +168,8 @@ impl<T: TxType, B: Body> Ready<'_, T, B> {
         requires { IsBefore T.TxType B.Body Drawing self.old (C.view cells.old) }
         ensures { HasAdvanced T.TxType B.Body C.Cells Drawing self.old self.new cells.old cells.new result }
     {
-        let lists = &self.log.table.lists;
+        let table = &mut *self.log.table;
+        let lists = &table.lists;
         let ticket = cells.draw(&lists.updates, &lists.seen, &lists.loaded);
         self.commit_phase = self.next_check(0, ticket);
         None
@@ -175,7 +180,8 @@ impl<T: TxType, B: Body> Ready<'_, T, B> {
         requires { place ≤ length (lists_of self.now).checks.items }
         ensures { IsNextCheck (lists_of self.now).checks.items place ticket result }
     {
-        if place == self.log.table.lists.checks.len() {
+        let table = &*self.log.table;
+        if place == table.lists.checks.len() {
             CommitPhase::Deciding { ticket }
         } else {
             CommitPhase::Checking { place, ticket }
@@ -192,9 +198,10 @@ impl<T: TxType, B: Body> Ready<'_, T, B> {
         requires { IsBefore T.TxType B.Body (Checking place ticket) self.old (C.view cells.old) }
         ensures { HasAdvanced T.TxType B.Body C.Cells (Checking place ticket) self.old self.new cells.old cells.new result }
     {
-        let part = *self.log.table.lists.checks.get(place);
+        let table = &mut *self.log.table;
+        let part = *table.lists.checks.get(place);
         let found = cells.check(part);
-        if found.is_locked() && !is_written(self.log.table.lists.updates.as_slice(), part) {
+        if found.is_locked() && !is_written(table.lists.updates.as_slice(), part) {
             let verdict = Verdict::Locked { at: self.at, part };
             self.commit_phase = CommitPhase::Dropping { ticket, verdict };
             return None;
@@ -218,7 +225,8 @@ impl<T: TxType, B: Body> Ready<'_, T, B> {
         requires { Rises (lists_of self.now).seen.items }
         ensures { result ≡ goes_on (lists_of self.now).seen.items self.now.log.table.set.items (lists_of self.now).loaded_words.items part }
     {
-        is_seen(self.log.table.lists.seen.as_slice(), part) || self.all_so(part)
+        let table = &*self.log.table;
+        is_seen(table.lists.seen.as_slice(), part) || self.all_so(part)
     }
 
     // Whether the type finds the predicates on a part to be true of the words that were loaded.
@@ -236,10 +244,11 @@ impl<T: TxType, B: Body> Ready<'_, T, B> {
         requires { Rises (lists_of self.now).seen.items }
         ensures { result ≡ expected_of self.now.log.table.base.items (lists_of self.now).found_tickets.items (lists_of self.now).seen.items part }
     {
-        if is_seen(self.log.table.lists.seen.as_slice(), part) {
-            self.log.table.base.ticket(part)
+        let table = &*self.log.table;
+        if is_seen(table.lists.seen.as_slice(), part) {
+            table.base.ticket(part)
         } else {
-            self.log.table.lists.found_tickets.ticket(part)
+            table.lists.found_tickets.ticket(part)
         }
     }
 
@@ -253,10 +262,11 @@ impl<T: TxType, B: Body> Ready<'_, T, B> {
         requires { IsBefore T.TxType B.Body (Dropping ticket verdict) self.old (C.view cells.old) }
         ensures { HasAdvanced T.TxType B.Body C.Cells (Dropping ticket verdict) self.old self.new cells.old cells.new result }
     {
+        let table = &mut *self.log.table;
         cells.decide(false);
         self.commit_phase = CommitPhase::Leaving {
             place: 0,
-            end: self.log.table.lists.updates.len(),
+            end: table.lists.updates.len(),
             verdict,
         };
         None
@@ -277,7 +287,8 @@ impl<T: TxType, B: Body> Ready<'_, T, B> {
         requires { place ≤ length (lists_of self.now).places.items }
         ensures { IsNextPut (lists_of self.now).places.items place ticket result }
     {
-        if place == self.log.table.lists.places.len() {
+        let table = &*self.log.table;
+        if place == table.lists.places.len() {
             CommitPhase::Releasing { place: 0, ticket }
         } else {
             CommitPhase::Putting { place, ticket }
@@ -294,9 +305,10 @@ impl<T: TxType, B: Body> Ready<'_, T, B> {
         requires { IsBefore T.TxType B.Body (Putting place ticket) self.old (C.view cells.old) }
         ensures { HasAdvanced T.TxType B.Body C.Cells (Putting place ticket) self.old self.new cells.old cells.new result }
     {
-        let (part, word) = *self.log.table.lists.places.get(place);
-        let change = self.log.table.set.pending(part, word);
-        let words = &self.log.table.lists.loaded_words;
+        let table = &mut *self.log.table;
+        let (part, word) = *table.lists.places.get(place);
+        let change = table.set.pending(part, word);
+        let words = &table.lists.loaded_words;
         let value = self.log.ty.install(change, words.value(part, word));
         cells.put(part, word, value);
         self.commit_phase = self.next_put(place + 1, ticket);
@@ -313,10 +325,11 @@ impl<T: TxType, B: Body> Ready<'_, T, B> {
         requires { IsBefore T.TxType B.Body (Releasing place ticket) self.old (C.view cells.old) }
         ensures { HasAdvanced T.TxType B.Body C.Cells (Releasing place ticket) self.old self.new cells.old cells.new result }
     {
-        let part = self.log.table.lists.updates.get(place).0;
+        let table = &mut *self.log.table;
+        let part = table.lists.updates.get(place).0;
         cells.release(part);
         let next = place + 1;
-        if next < self.log.table.lists.updates.len() {
+        if next < table.lists.updates.len() {
             self.commit_phase = CommitPhase::Releasing {
                 place: next,
                 ticket,
@@ -356,7 +369,8 @@ impl<T: TxType, B: Body> Ready<'_, T, B> {
         requires { IsBefore T.TxType B.Body (Leaving place end verdict) self.old (C.view cells.old) }
         ensures { HasAdvanced T.TxType B.Body C.Cells (Leaving place end verdict) self.old self.new cells.old cells.new result }
     {
-        let part = self.log.table.lists.updates.get(place).0;
+        let table = &mut *self.log.table;
+        let part = table.lists.updates.get(place).0;
         cells.unlock(part);
         let next = place + 1;
         if next < end {
