@@ -4,6 +4,7 @@ ghost use Rattle.sto_model.specs.declared.call.Call.{Call};
 ghost use Rattle.sto_core.specs.Event.{Open, Close, Renew, Recheck};
 ghost use Rattle.sto_core.specs.declared.view.View.{View};
 ghost use Rattle.sto_attempt_log.specs.declared.read_phase.ReadPhase.TheVariants.{Unstarted, Opening, Reading, Renewing, Rechecking, Reopening, Rereading};
+ghost use Rattle.sto_attempt_log.specs.Led.{IsLed};
 ghost use Rattle.sto_attempt_log.specs.ReadSet.{IsTrueIn, AllTrueIn};
 ghost use Rattle.sto_attempt_log.specs.Tables.{with_words};
 ghost use Rattle.sto_attempt.specs.Attempts.{IsNew, IsOwnLog, IsUnderWay, IsBeforeWord, IsPrefixOf, FitsAt, IsExtending, HasGoneOn, MakesNext, HasStarted, HasStepped, HasReadOne, HasReadWord, ReadsAs, part_width, words_left};
@@ -11,7 +12,7 @@ ghost use Rattle.sto_attempt.specs.Attempts.{IsNew, IsOwnLog, IsUnderWay, IsBefo
 use std::alloc::Global;
 use std::mem;
 use sto_attempt_log::{
-    AttemptLists, BoxedTable, Heard, Log, ReadPhase, Turn, Verdict, lead, learn_updated,
+    AttemptLists, BoxedTable, Heard, Log, Reached, ReadPhase, Turn, Verdict, lead, learn_updated,
 };
 use sto_core::Cells;
 use sto_model::{Body, Replies};
@@ -86,7 +87,7 @@ impl<'t, T: TxType, B: Body> Attempt<'t, T, B> {
             ReadPhase::Unstarted => self.begin(alloc, cells),
             ReadPhase::Opening { part } => Ok(self.open(alloc, cells, part)),
             ReadPhase::Reading { part, ticket } => {
-                if self.log.table.words.len() < self.log.ty.width(part) {
+                if self.words_read() < self.log.ty.width(part) {
                     self.read_word(cells)
                 } else {
                     self.close(alloc, cells, part, ticket)
@@ -96,7 +97,7 @@ impl<'t, T: TxType, B: Body> Attempt<'t, T, B> {
             ReadPhase::Rechecking { part } => self.recheck(alloc, cells, part),
             ReadPhase::Reopening { part } => Ok(self.reopen(alloc, cells, part)),
             ReadPhase::Rereading { part, ticket } => {
-                if self.log.table.words.len() < self.log.ty.width(part) {
+                if self.words_read() < self.log.ty.width(part) {
                     self.read_word(cells)
                 } else {
                     self.reclose(alloc, cells, part, ticket)
@@ -113,11 +114,18 @@ impl<'t, T: TxType, B: Body> Attempt<'t, T, B> {
         ensures few { 0 < result → length self.now.log.table.words.items + result < 2 ^ 32 }
     {
         match self.read_phase {
-            ReadPhase::Reading { part, .. } => self.log.ty.width(part) - self.log.table.words.len(),
-            ReadPhase::Rereading { part, .. } => self.log.ty.width(part)
-                - self.log.table.words.len(),
+            ReadPhase::Reading { part, .. } => self.log.ty.width(part) - self.words_read(),
+            ReadPhase::Rereading { part, .. } => self.log.ty.width(part) - self.words_read(),
             _ => 0,
         }
+    }
+
+    // How many words of that part were read.
+    fn words_read(&self) -> u32
+        ensures { result ≡ length self.now.log.table.words.items }
+    {
+        let table = &*self.log.table;
+        table.words.len()
     }
 
     /// Reads the next word of the part that is being read, as a step does where one is left.
@@ -142,9 +150,17 @@ impl<'t, T: TxType, B: Body> Attempt<'t, T, B> {
         let at = cells.start();
         self.at = at;
         let reached = self.log.go_on(alloc)?;
-        let (read_phase, turn) = lead(&self.log.table.set, at, reached);
+        let (read_phase, turn) = self.lead(reached);
         self.read_phase = read_phase;
         Ok(turn)
+    }
+
+    // Where the body's end, or the part that it needs, leads.
+    pub(crate) fn lead(&self, reached: Reached) -> (ReadPhase, Turn)
+        ensures { IsLed self.now.at self.now.log.table.set.updates reached result.0 result.1 }
+    {
+        let table = &*self.log.table;
+        lead(&table.set, self.at, reached)
     }
 
     // Begins the read of a needed part.
@@ -238,8 +254,8 @@ impl<'t, T: TxType, B: Body> Attempt<'t, T, B> {
         let extended = table.extension.extended;
         let heard = table.replies.len();
         let reached = self.log.go_on(alloc)?;
+        let (read_phase, turn) = self.lead(reached);
         let table = &mut *self.log.table;
-        let (read_phase, turn) = lead(&table.set, self.at, reached);
         table.extension.extended = still(extended, heard, table.replies.len());
         self.read_phase = read_phase;
         Ok(turn)
@@ -269,8 +285,8 @@ impl<'t, T: TxType, B: Body> Attempt<'t, T, B> {
         let extended = table.extension.extended;
         let heard = table.replies.len();
         let reached = self.log.go_on(alloc)?;
+        let (read_phase, turn) = self.lead(reached);
         let table = &mut *self.log.table;
-        let (read_phase, turn) = lead(&table.set, self.at, reached);
         table.extension.extended = still(extended, heard, table.replies.len());
         self.read_phase = read_phase;
         Ok(turn)
