@@ -171,6 +171,7 @@ impl<'t, T: TxType, B: Body> Attempt<'t, T, B> {
         ensures log { self.new.log ≡ with_words self.old.log self.new.log.table.words }
         ensures extension { self.new.log.table.extension ≡ self.old.log.table.extension }
     {
+        let ty = self.log.ty;
         let table = &mut *self.log.table;
         let found = cells.open(part);
         if found.is_locked() {
@@ -179,7 +180,6 @@ impl<'t, T: TxType, B: Body> Attempt<'t, T, B> {
         }
         let ticket = found.ticket();
         if ticket <= self.at {
-            let ty = self.log.ty;
             make_room(&mut table.words, ty.width(part));
             self.read_phase = ReadPhase::Reading { part, ticket };
             return Turn::More;
@@ -355,6 +355,7 @@ impl<'t, T: TxType, B: Body> Attempt<'t, T, B> {
         ensures log { self.new.log ≡ with_words self.old.log self.new.log.table.words }
         ensures extension { self.new.log.table.extension ≡ self.old.log.table.extension }
     {
+        let ty = self.log.ty;
         let table = &mut *self.log.table;
         let found = cells.open(part);
         if found.is_locked() {
@@ -370,7 +371,6 @@ impl<'t, T: TxType, B: Body> Attempt<'t, T, B> {
                 ticket,
             });
         }
-        let ty = self.log.ty;
         make_room(&mut table.words, ty.width(part));
         self.read_phase = ReadPhase::Rereading { part, ticket };
         Turn::More
@@ -404,6 +404,7 @@ impl<'t, T: TxType, B: Body> Attempt<'t, T, B> {
         requires all { length self.old.log.table.words.items ≡ part_width T.TxType B.Body self.old part }
         ensures { HasStepped T.TxType B.Body C.Cells (Rereading part ticket) (Close part) self.old self.new cells.old cells.new result }
     {
+        let ty = self.log.ty;
         let table = &mut *self.log.table;
         let found = cells.close(part);
         if found.is_locked() {
@@ -419,7 +420,6 @@ impl<'t, T: TxType, B: Body> Attempt<'t, T, B> {
                 ticket: newer,
             }));
         }
-        let ty = self.log.ty;
         let place = table.extension.fresh.len();
         let watch = table.extension.watches.get(place);
         if !are_true(ty, watch.preds.as_slice(), table.words.as_slice()) {

@@ -7,7 +7,8 @@ ghost use Rattle.sto_core.specs.Allowed.{Rises};
 ghost use Rattle.sto_attempt.specs.Commits.{lists_of, MovesOnly, IsBefore, AdvancesNext, HasAdvanced, HasPrefix};
 
 use sto_attempt_log::{
-    AttemptLists, CommitPhase, FoundTicket, Heard, LoadedWord, Log, Verdict, is_seen, is_written,
+    AttemptLists, CommitPhase, FoundTicket, Heard, LoadedWord, Log, Table, Verdict, is_seen,
+    is_written,
 };
 use sto_core::Cells;
 use sto_model::{Body, Replies};
@@ -129,9 +130,10 @@ impl<T: TxType, B: Body> Ready<'_, T, B> {
         requires { IsBefore T.TxType B.Body (Loading place word) self.old (C.view cells.old) }
         ensures { HasAdvanced T.TxType B.Body C.Cells (Loading place word) self.old self.new cells.old cells.new result }
     {
+        let ty = self.log.ty;
         let table = &mut *self.log.table;
         let part = *table.lists.tasks.get(place);
-        let width = self.log.ty.width(part);
+        let width = ty.width(part);
         let value = cells.word(part, word);
         let lists = &mut table.lists;
         lists
@@ -207,7 +209,7 @@ impl<T: TxType, B: Body> Ready<'_, T, B> {
             return None;
         }
         let newer = found.ticket();
-        if newer != self.expected(part) {
+        if newer != expected(table, part) {
             let verdict = Verdict::Changed {
                 at: self.at,
                 part,
@@ -237,19 +239,6 @@ impl<T: TxType, B: Body> Ready<'_, T, B> {
         table
             .set
             .all_so(self.log.ty, &table.lists.loaded_words, part)
-    }
-
-    // The ticket that the check of a part is to find.
-    fn expected(&self, part: u32) -> u64
-        requires { Rises (lists_of self.now).seen.items }
-        ensures { result ≡ expected_of self.now.log.table.base.items (lists_of self.now).found_tickets.items (lists_of self.now).seen.items part }
-    {
-        let table = &*self.log.table;
-        if is_seen(table.lists.seen.as_slice(), part) {
-            table.base.ticket(part)
-        } else {
-            table.lists.found_tickets.ticket(part)
-        }
     }
 
     // Drops the entry.
@@ -305,11 +294,12 @@ impl<T: TxType, B: Body> Ready<'_, T, B> {
         requires { IsBefore T.TxType B.Body (Putting place ticket) self.old (C.view cells.old) }
         ensures { HasAdvanced T.TxType B.Body C.Cells (Putting place ticket) self.old self.new cells.old cells.new result }
     {
+        let ty = self.log.ty;
         let table = &mut *self.log.table;
         let (part, word) = *table.lists.places.get(place);
         let change = table.set.pending(part, word);
         let words = &table.lists.loaded_words;
-        let value = self.log.ty.install(change, words.value(part, word));
+        let value = ty.install(change, words.value(part, word));
         cells.put(part, word, value);
         self.commit_phase = self.next_put(place + 1, ticket);
         None
@@ -383,5 +373,17 @@ impl<T: TxType, B: Body> Ready<'_, T, B> {
         }
         self.commit_phase = CommitPhase::Over;
         Some(verdict)
+    }
+}
+
+// The ticket that the check of a part is to find.
+fn expected(table: &Table, part: u32) -> u64
+    requires { Rises table.now.lists.seen.items }
+    ensures { result ≡ expected_of table.now.base.items table.now.lists.found_tickets.items table.now.lists.seen.items part }
+{
+    if is_seen(table.lists.seen.as_slice(), part) {
+        table.base.ticket(part)
+    } else {
+        table.lists.found_tickets.ticket(part)
     }
 }

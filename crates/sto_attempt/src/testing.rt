@@ -49,8 +49,9 @@ impl<T: TxType, B: Body> Ready<'_, T, B> {
         requires { IsBefore T.TxType B.Body (Tested place word ticket) self.old (C.view cells.old) }
         ensures { HasAdvanced T.TxType B.Body C.Cells (Tested place word ticket) self.old self.new cells.old cells.new result }
     {
+        let ty = self.log.ty;
         let table = &mut *self.log.table;
-        let width = self.log.ty.width(*table.lists.tasks.get(place));
+        let width = ty.width(*table.lists.tasks.get(place));
         if word < width {
             self.load_tested(cells, place, word, ticket, width)
         } else {

@@ -37,7 +37,7 @@ check-found-requires g c =
 pub expected-requires : goal.expected-requires
 expected-requires g c =
     let before = held_before (of_type g.T.Naming g.T.TxType) g.B.Body c.deref_mut-table.ensures.value c.requires in
-before.stands.1.planned.seen_rise
+    before.stands.1.planned.seen_rise
 
 pub returns-then-not-is_written : goal.returns-then-not-is_written
 returns-then-not-is_written g c =

@@ -69,13 +69,13 @@ returns-then-is_locked-clause-advanced g c =
     own_advanced (of_type g.T.Naming g.T.TxType) g.B.Body g.C.Cells c.deref_mut-table.ensures.value (record {
       advances = record {
         event = search rules;
-        said = subst (λ (q : ℕ). IsLeaving d 0 c.len.result (Locked a.at q) w) at (subst (λ (e : ℕ). IsLeaving d 0 e (Locked a.at (task d n)) w) (sym c.len.ensures) it);
+        said = subst (λ (q : ℕ). IsLeaving d 0 c.len-end.result (Locked a.at q) w) at (subst (λ (e : ℕ). IsLeaving d 0 e (Locked a.at (task d n)) w) (sym c.len-end.ensures) it);
         space = search rules;
-        left = fail_lowers d c.len.result c.len.ensures _;
+        left = fail_lowers d c.len-end.result c.len-end.ensures _;
         reason = λ y e. inr (subst (λ z. HasReason (S.Tested c.args.place c.args.word c.args.ticket) a.log.table.set.items w z) e tt);
         alone = λ one quiet. absurd (not_busy v (task d n) k (tells.learns.0.alone one) (end_unheld d law n i t a.log.table.lists.found_tickets a.log.table.lists.loaded_words.items v h all) busy);
         by = search rules;
-        commits = record { number = k; value = pos 0; tells = subst (λ (e : Event). Tells valid passes e v k (pos 0) w) (sym (tested_end (g.T.TxType.meaning a.log.ty.now) (committer_of a) n i t all)) tells; leads = tested_busy (g.T.TxType.meaning a.log.ty.now) (committer_of a) n i t k (pos 0) p c.len.result all busy (sym at) c.len.ensures };
+        commits = record { number = k; value = pos 0; tells = subst (λ (e : Event). Tells valid passes e v k (pos 0) w) (sym (tested_end (g.T.TxType.meaning a.log.ty.now) (committer_of a) n i t all)) tells; leads = tested_busy (g.T.TxType.meaning a.log.ty.now) (committer_of a) n i t k (pos 0) p c.len-end.result all busy (sym at) c.len-end.ensures };
         kept = refl;
       };
       kept = refl;
@@ -109,13 +109,13 @@ returns-then-newer-ticket-clause-advanced g c =
     own_advanced (of_type g.T.Naming g.T.TxType) g.B.Body g.C.Cells c.deref_mut-table.ensures.value (record {
       advances = record {
         event = search rules;
-        said = leaving_as d (length a.log.table.lists.updates.items) c.len-then-newer-ticket.result c.len-then-newer-ticket.ensures (task d n) p at (ticket_of k) c.ticket-newer.result found w it;
+        said = leaving_as d (length a.log.table.lists.updates.items) c.len-end.result c.len-end.ensures (task d n) p at (ticket_of k) c.ticket-newer.result found w it;
         space = search rules;
-        left = fail_lowers d c.len-then-newer-ticket.result c.len-then-newer-ticket.ensures _;
+        left = fail_lowers d c.len-end.result c.len-end.ensures _;
         reason = λ y e. inr (subst (λ z. HasReason (S.Tested c.args.place c.args.word c.args.ticket) a.log.table.set.items w z) e (inr (inr (subst (λ (q : ℕ). IsByTest a.log.table.set.items w q c.ticket-newer.result) at (subst (λ (r : ℕ). IsByTest a.log.table.set.items w (task d n) r) found (newer_reason d law n i t a.log.table.lists.found_tickets a.log.table.lists.loaded_words.items v h all w _ k _ tells (other_version k t differs) differs))))));
         alone = λ one quiet. absurd (omega (arith, it.ends.1.later, (tells.learns.0.alone one).1, h.going.sealed.number));
         by = search rules;
-        commits = record { number = k; value = pos 0; tells = subst (λ (e : Event). Tells valid passes e v k (pos 0) w) (sym (tested_end (g.T.TxType.meaning a.log.ty.now) (committer_of a) n i t all)) tells; leads = tested_newer (g.T.TxType.meaning a.log.ty.now) (committer_of a) n i t k (pos 0) p c.ticket-newer.result c.len-then-newer-ticket.result all free differs (sym at) (sym found) c.len-then-newer-ticket.ensures };
+        commits = record { number = k; value = pos 0; tells = subst (λ (e : Event). Tells valid passes e v k (pos 0) w) (sym (tested_end (g.T.TxType.meaning a.log.ty.now) (committer_of a) n i t all)) tells; leads = tested_newer (g.T.TxType.meaning a.log.ty.now) (committer_of a) n i t k (pos 0) p c.ticket-newer.result c.len-end.result all free differs (sym at) (sym found) c.len-end.ensures };
         kept = refl;
       };
       kept = refl;
@@ -198,13 +198,13 @@ returns-clause-advanced g c =
     own_advanced (of_type g.T.Naming g.T.TxType) g.B.Body g.C.Cells c.deref_mut-table.ensures.value (record {
       advances = record {
         event = search rules;
-        said = leaving_as d (length a.log.table.lists.updates.items) c.len-2.result c.len-2.ensures (task d n) p at t t refl w it;
+        said = leaving_as d (length a.log.table.lists.updates.items) c.len-end.result c.len-end.ensures (task d n) p at t t refl w it;
         space = search rules;
-        left = fail_lowers d c.len-2.result c.len-2.ensures _;
+        left = fail_lowers d c.len-end.result c.len-end.ensures _;
         reason = λ y e. inr (subst (λ z. HasReason (S.Tested c.args.place c.args.word c.args.ticket) a.log.table.set.items w z) e (inr (inl (subst (λ (q : ℕ). IsByPredicate a.log.table.set.items w q t) at (fails_reason d law n i t a.log.table.lists.found_tickets a.log.table.lists.loaded_words.items v h all w _ k _ tells again here f.pred f.there f.on f.fails)))));
         alone = λ one quiet. absurd (omega (arith, it.ends.1.later, same, (tells.learns.0.alone one).1, h.going.sealed.number));
         by = search rules;
-        commits = record { number = k; value = pos 0; tells = subst (λ (e : Event). Tells valid passes e v k (pos 0) w) (sym (tested_end (g.T.TxType.meaning a.log.ty.now) (committer_of a) n i t all)) tells; leads = tested_fails (g.T.TxType.meaning a.log.ty.now) (committer_of a) n i t k (pos 0) p t c.len-2.result all free same (stops_where_not d h.going.planned (task d n) a.log.table.lists.loaded_words.items (task_loaded d law n v h.going.sealed h.going.planned h.below h.unwritten) bad) (sym at) (sym h.ticket) c.len-2.ensures };
+        commits = record { number = k; value = pos 0; tells = subst (λ (e : Event). Tells valid passes e v k (pos 0) w) (sym (tested_end (g.T.TxType.meaning a.log.ty.now) (committer_of a) n i t all)) tells; leads = tested_fails (g.T.TxType.meaning a.log.ty.now) (committer_of a) n i t k (pos 0) p t c.len-end.result all free same (stops_where_not d h.going.planned (task d n) a.log.table.lists.loaded_words.items (task_loaded d law n v h.going.sealed h.going.planned h.below h.unwritten) bad) (sym at) (sym h.ticket) c.len-end.ensures };
         kept = refl;
       };
       kept = refl;

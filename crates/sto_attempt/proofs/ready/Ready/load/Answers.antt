@@ -23,6 +23,7 @@ use Rattle.sto_attempt_log.specs.Reasons.{IsByPredicate}
 use Rattle.sto_type.specs.Traits.{of_type}
 use Rattle.sto_attempt.specs.Commits.{deal_of, committer_of}
 use Rattle.sto_attempt_log.proofs.CommitSteps.{load_more, load_all, load_stops}
+use Rattle.sto_attempt_log.specs.declared.table.Table.{Table}
 use Rattle.sto_attempt.proofs.OnTable.{on, held_before, own_advanced}
 use Rattle.sto_attempt.proofs.ready.Ready.load.Goals as goal
 
@@ -186,17 +187,18 @@ returns g c =
     let unseen = stops_unseen d more (task d n) h.loading.going.planned bad in
     let here : (y : Parts) → valid v.sizes y → m.valid y = λ y k. (g.met.T.TxType.valid_is a.log.ty.now y).1 (subst (λ (l : List ℕ). valid l y) h.loading.going.sealed.own.same_sizes k) in
     let it = load_fails d law n i a.log.table.lists.found_tickets a.log.table.lists.loaded_words.items v h w _ _ x tells last here f.pred f.there f.on f.fails unseen in
-    let ticket : ticket_from 0 a.log.table.lists.found_tickets.items (task d n) ≡ c.ticket-ticket.result = ap (ticket_from 0 a.log.table.lists.found_tickets.items) at ∙ sym c.ticket-ticket.ensures in
+    let updates_len : c.len.result ≡ length a.log.table.lists.updates.items = c.len.ensures ∙ ap (λ (x : Table). length x.lists.updates.items) c.deref-table.ensures in
+    let ticket : ticket_from 0 a.log.table.lists.found_tickets.items (task d n) ≡ c.ticket-ticket.result = ap (ticket_from 0 a.log.table.lists.found_tickets.items) at ∙ sym (c.ticket-ticket.ensures ∙ ap (λ (x : Table). ticket_from 0 x.lists.found_tickets.items p) c.deref-table.ensures) in
     own_advanced (of_type g.T.Naming g.T.TxType) g.B.Body g.C.Cells c.deref_mut-table.ensures.value (record {
       advances = record {
         event = search rules;
-        said = leaving_as d (length a.log.table.lists.updates.items) c.len.result c.len.ensures (task d n) p at (ticket_from 0 a.log.table.lists.found_tickets.items (task d n)) c.ticket-ticket.result ticket w it;
+        said = leaving_as d (length a.log.table.lists.updates.items) c.len.result updates_len (task d n) p at (ticket_from 0 a.log.table.lists.found_tickets.items (task d n)) c.ticket-ticket.result ticket w it;
         space = search rules;
-        left = fail_lowers d c.len.result c.len.ensures _;
+        left = fail_lowers d c.len.result updates_len _;
         reason = λ y e. inr (subst (λ z. HasReason (S.Loading c.args.place c.args.word) a.log.table.set.items w z) e (inr (inl (subst (λ (q : ℕ). IsByPredicate a.log.table.set.items w q c.ticket-ticket.result) at (subst (λ (k : ℕ). IsByPredicate a.log.table.set.items w (task d n) k) ticket (load_reason d law n i a.log.table.lists.found_tickets a.log.table.lists.loaded_words.items v h w _ _ x tells last here f.pred f.there f.on f.fails unseen))))));
         alone = λ one quiet. let early = early_ticket a.at a.log.table.lists.found_tickets.items (task d n) 0 (omega arith) quiet.early in absurd (omega (arith, it.ends.1.later, early));
         by = search rules;
-        commits = record { number = 0; value = x; tells = tells; leads = load_stops m (committer_of a) n i 0 x loaded_words.items p c.ticket-ticket.result c.len.result items (omega (arith, c.if-word-width.false, width)) bad (sym at) (sym ticket) c.len.ensures };
+        commits = record { number = 0; value = x; tells = tells; leads = load_stops m (committer_of a) n i 0 x loaded_words.items p c.ticket-ticket.result c.len.result items (omega (arith, c.if-word-width.false, width)) bad (sym at) (sym ticket) updates_len };
         kept = refl;
       };
       kept = refl;

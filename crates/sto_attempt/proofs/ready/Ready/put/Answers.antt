@@ -37,6 +37,11 @@ put-requires g c =
     let is = put_is d law c.args.place 0 c.args.ticket puts a.log.table.lists.loaded_words.items v h y c.get.ensures a.log.table.set.updates before.copy c.pending-change.result c.pending-change.ensures.change old (old_same ∙ c.value.ensures) value (same ∙ c.install-value.ensures) in
     may_put d law c.args.place 0 c.args.ticket puts a.log.table.lists.loaded_words.items v h refl y c.get.ensures value is
 
+pub next_put-self-requires : goal.next_put-self-requires
+next_put-self-requires g c =
+    let before = held_before (of_type g.T.Naming g.T.TxType) g.B.Body c.deref_mut-table.ensures.value c.requires in
+    omega (arith, before.stands.0)
+
 pub overflow_add-place : goal.overflow_add-place
 overflow_add-place g c =
     let before = held_before (of_type g.T.Naming g.T.TxType) g.B.Body c.deref_mut-table.ensures.value c.requires in
