@@ -255,8 +255,8 @@ impl<'t, T: TxType, B: Body> Attempt<'t, T, B> {
         let heard = table.replies.len();
         let reached = self.log.go_on(alloc)?;
         let (read_phase, turn) = self.lead(reached);
-        let table = &mut *self.log.table;
-        table.extension.extended = still(extended, heard, table.replies.len());
+        let after = &mut *self.log.table;
+        after.extension.extended = still(extended, heard, after.replies.len());
         self.read_phase = read_phase;
         Ok(turn)
     }
@@ -286,8 +286,8 @@ impl<'t, T: TxType, B: Body> Attempt<'t, T, B> {
         let heard = table.replies.len();
         let reached = self.log.go_on(alloc)?;
         let (read_phase, turn) = self.lead(reached);
-        let table = &mut *self.log.table;
-        table.extension.extended = still(extended, heard, table.replies.len());
+        let after = &mut *self.log.table;
+        after.extension.extended = still(extended, heard, after.replies.len());
         self.read_phase = read_phase;
         Ok(turn)
     }
