@@ -207,8 +207,8 @@ returns-then-newer-ticket-clause-made g c =
       same = c.close-found.ensures.same;
     }
 
-pub returns-then-len-eq4294967295-clause-made : goal.returns-then-len-eq4294967295-clause-made
-returns-then-len-eq4294967295-clause-made g c =
+pub returns-then-len-clause-made : goal.returns-then-len-clause-made
+returns-then-len-clause-made g c =
     let under = held_under (of_type g.T.Naming g.T.TxType) g.B.Body c.args.self.now c.deref_mut-table.result.now c.deref_mut-table.ensures.value c.requires.before in
     let a = at_table c.args.self.now c.deref_mut-table.result.now in
     let m = g.T.TxType.meaning a.log.ty.now in
@@ -443,8 +443,8 @@ returns-then-newer-ticket-clause-reads g c =
       leads = close_changed_is m f (reader_of a) c.args.part c.args.ticket n (pos 0) c.ticket-newer.result c.requires.all free c.ticket-newer.ensures.ticket c.if-newer-ticket.true;
     }
 
-pub returns-then-len-eq4294967295-clause-reads : goal.returns-then-len-eq4294967295-clause-reads
-returns-then-len-eq4294967295-clause-reads g c = tt
+pub returns-then-len-clause-reads : goal.returns-then-len-clause-reads
+returns-then-len-clause-reads g c = tt
 
 pub returns-in_err-push-clause-reads : goal.returns-in_err-push-clause-reads
 returns-in_err-push-clause-reads g c = search rules
