@@ -7,8 +7,9 @@ use Rattle.sto_attempt_log.specs.Remaining.{commit_left}
 use Rattle.sto_attempt_log.specs.CommitPhases.{deal, IsPlanned}
 use Rattle.sto_item.specs.Recorded.{Recorded}
 use Rattle.sto_attempt_log.specs.declared.lists.Lists.{Lists}
-use Rattle.sto_attempt_log.specs.Tables.{with_table}
+use Rattle.sto_attempt_log.specs.Tables.{with_table, with_lists}
 use Rattle.sto_attempt_log.proofs.Sealing.{gathered_planned, gathered_bounded}
+use Rattle.sto_attempt.specs.Attempts.{with_lists_of}
 use Rattle.sto_attempt.proofs.OnTable.{at_table, held_carries, held_some, own_stocked}
 use Rattle.sto_type.specs.Traits.{of_type}
 use Rattle.sto_attempt_log.specs.declared.table.Table.{Table}
