@@ -24,7 +24,7 @@ use Rattle.sto_core.specs.Event.{Event}
 use Rattle.sto_attempt.specs.Attempts.{reader_of, part_width, IsUnderWay, IsBeforeWord, FitsAt, IsOwnLog, IsExtending, Waits, Carries, CanHave, IsStocked, HasGoneOn, HasResumed, HasStepped, HasReadWord}
 use Rattle.sto_attempt.specs.declared.ready.Ready.{Ready}
 use Rattle.sto_attempt.specs.declared.attempt.Attempt.{Attempt}
-use Rattle.sto_attempt.specs.Commits.{IsBefore, HasAdvanced, task_width}
+use Rattle.sto_attempt.specs.Commits.{IsBefore, HasAdvanced}
 
 -- the commit on this value of its table
 abbrev pub on : {T B : Type 0} → Ready T B → Table → Ready T B

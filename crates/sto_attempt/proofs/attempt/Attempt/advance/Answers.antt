@@ -10,7 +10,7 @@ use Rattle.sto_attempt_log.specs.declared.read_entry.ReadEntry.{ReadEntry}
 use Rattle.sto_attempt_log.specs.declared.extension.Extension.{Extension}
 use Rattle.sto_attempt_log.specs.ReadSet.{words_in, AreClaimed, AreOnly}
 use Rattle.sto_attempt_log.specs.Log.{IsOnLog}
-use Rattle.sto_attempt_log.specs.Standing.{IsNext, Turned}
+use Rattle.sto_attempt_log.specs.Standing.{IsNext}
 use Rattle.sto_attempt_log.proofs.OneReply.{cache_none}
 use Rattle.sto_attempt_log.proofs.Anew.{ahead, all_renewed, log_renewed}
 use Rattle.sto_attempt_log.proofs.Spanning.{rests}

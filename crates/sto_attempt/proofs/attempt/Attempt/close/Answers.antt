@@ -1,5 +1,4 @@
 use Rattle.std.proofs.Common.{ℤ, ◌≡◌, ◌≤◌, ◌<◌, true, false, List, ℕ, [], ◌∷◌, ◌++◌, ap, sym, ◌∙◌, subst, map, arith, refl, rules, length}
-use Rattle.sto_part.specs.Listed.{Listed}
 use Rattle.sto_model.specs.PlainReplies.{plain_reply}
 use Rattle.sto_core.specs.Versions.{ticket_of, is_free}
 use Rattle.sto_core.proofs.Lists.{locked_is, unlocked_is}
@@ -9,7 +8,7 @@ use Rattle.sto_attempt_log.specs.declared.read_entry.ReadEntry.{ReadEntry}
 use Rattle.sto_attempt_log.specs.declared.extension.Extension.{Extension}
 use Rattle.sto_attempt_log.specs.ReadSet.{words_in, AreClaimed, AreOnly}
 use Rattle.sto_attempt_log.specs.Log.{IsOnLog, IsCache}
-use Rattle.sto_attempt_log.specs.Standing.{IsAsOf, Turned, IsLeft}
+use Rattle.sto_attempt_log.specs.Standing.{IsAsOf, IsLeft}
 use Rattle.sto_attempt_log.specs.Answers.{WasChanged}
 use Rattle.sto_attempt_log.proofs.Prefix.{some_contents}
 use Rattle.sto_attempt_log.specs.Answers.{IsPrefix}

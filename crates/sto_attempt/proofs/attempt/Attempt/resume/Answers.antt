@@ -1,10 +1,7 @@
 -- It goes on as after a read: what the view tells was told before.
-use Rattle.std.proofs.Common.{◌≡◌, ℕ, List, ap, sym, subst, map, refl, rules}
-use Rattle.sto_part.specs.Listed.{Listed}
+use Rattle.std.proofs.Common.{ℕ, List, subst, map, refl, rules}
 use Rattle.sto_model.specs.PlainReplies.{plain_reply}
-use Rattle.sto_attempt_log.specs.declared.read_entry.ReadEntry.{ReadEntry}
 use Rattle.sto_attempt_log.specs.declared.extension.Extension.{Extension}
-use Rattle.sto_attempt_log.specs.Standing.{Turned}
 use Rattle.std.proofs.Common.{false}
 use Rattle.sto_attempt_log.proofs.Claimed.{claims_fit, part_of_claims}
 use Rattle.sto_attempt_log.proofs.Reading.{turned}

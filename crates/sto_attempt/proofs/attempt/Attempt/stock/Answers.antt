@@ -32,7 +32,7 @@ returns-clause-kept g c =
     let a = at_table c.args.self.now c.deref_mut-table.result.now in
     let l : Lists = record c.gather.new.self { loaded_words = c.make_room.new.loaded_words } in
     let kept =
-        ap (λ (s : Recorded). record a { log = with_table a.log (record a.log.table { set = s; lists = l }) }) c.sort.ensures in
+    ap (λ (s : Recorded). record a { log = with_table a.log (record a.log.table { set = s; lists = l }) }) c.sort.ensures in
     kept ∙ ap (λ (x : Table). with_lists_of (at_table c.args.self.now x) (record a { log = with_lists a.log l })) c.deref_mut-table.ensures.value
 
 pub returns-clause-stocked : goal.returns-clause-stocked
