@@ -1,4 +1,5 @@
 pub mod Kept
+mod OnTable
 pub mod Commits
 pub mod Attempts
 pub mod Next

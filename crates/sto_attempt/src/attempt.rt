@@ -4,6 +4,7 @@ ghost use Rattle.sto_model.specs.declared.call.Call.{Call};
 ghost use Rattle.sto_core.specs.Event.{Open, Close, Renew, Recheck};
 ghost use Rattle.sto_core.specs.declared.view.View.{View};
 ghost use Rattle.sto_attempt_log.specs.declared.read_phase.ReadPhase.TheVariants.{Unstarted, Opening, Reading, Renewing, Rechecking, Reopening, Rereading};
+ghost use Rattle.sto_attempt_log.specs.Led.{IsLed};
 ghost use Rattle.sto_attempt_log.specs.ReadSet.{IsTrueIn, AllTrueIn};
 ghost use Rattle.sto_attempt_log.specs.Tables.{with_words};
 ghost use Rattle.sto_attempt.specs.Attempts.{IsNew, IsOwnLog, IsUnderWay, IsBeforeWord, IsPrefixOf, FitsAt, IsExtending, HasGoneOn, MakesNext, HasStarted, HasStepped, HasReadOne, HasReadWord, ReadsAs, part_width, words_left};
@@ -11,7 +12,7 @@ ghost use Rattle.sto_attempt.specs.Attempts.{IsNew, IsOwnLog, IsUnderWay, IsBefo
 use std::alloc::Global;
 use std::mem;
 use sto_attempt_log::{
-    AttemptLists, Heard, Log, ReadPhase, Table, Turn, Verdict, lead, learn_updated,
+    AttemptLists, BoxedTable, Heard, Log, Reached, ReadPhase, Turn, Verdict, lead, learn_updated,
 };
 use sto_core::Cells;
 use sto_model::{Body, Replies};
@@ -35,7 +36,7 @@ impl<'t, T: TxType, B: Body> Attempt<'t, T, B> {
     ///
     /// The type is to take every call that the body may ask. The table is worked on in place; its end puts it back.
     #[inline(always)]
-    pub fn new(ty: &'t T, body: B, table: Table) -> Attempt<'t, T, B>
+    pub fn new(ty: &'t T, body: B, table: BoxedTable) -> Attempt<'t, T, B>
         requires { (call : Call) → B.may_ask body call → (T.meaning ty.now).takes call }
         ensures { IsNew T.TxType B.Body ty.now body result }
     {
@@ -86,7 +87,7 @@ impl<'t, T: TxType, B: Body> Attempt<'t, T, B> {
             ReadPhase::Unstarted => self.begin(alloc, cells),
             ReadPhase::Opening { part } => Ok(self.open(alloc, cells, part)),
             ReadPhase::Reading { part, ticket } => {
-                if self.log.table.words.len() < self.log.ty.width(part) {
+                if self.words_read() < self.log.ty.width(part) {
                     self.read_word(cells)
                 } else {
                     self.close(alloc, cells, part, ticket)
@@ -96,7 +97,7 @@ impl<'t, T: TxType, B: Body> Attempt<'t, T, B> {
             ReadPhase::Rechecking { part } => self.recheck(alloc, cells, part),
             ReadPhase::Reopening { part } => Ok(self.reopen(alloc, cells, part)),
             ReadPhase::Rereading { part, ticket } => {
-                if self.log.table.words.len() < self.log.ty.width(part) {
+                if self.words_read() < self.log.ty.width(part) {
                     self.read_word(cells)
                 } else {
                     self.reclose(alloc, cells, part, ticket)
@@ -113,11 +114,18 @@ impl<'t, T: TxType, B: Body> Attempt<'t, T, B> {
         ensures few { 0 < result → length self.now.log.table.words.items + result < 2 ^ 32 }
     {
         match self.read_phase {
-            ReadPhase::Reading { part, .. } => self.log.ty.width(part) - self.log.table.words.len(),
-            ReadPhase::Rereading { part, .. } => self.log.ty.width(part)
-                - self.log.table.words.len(),
+            ReadPhase::Reading { part, .. } => self.log.ty.width(part) - self.words_read(),
+            ReadPhase::Rereading { part, .. } => self.log.ty.width(part) - self.words_read(),
             _ => 0,
         }
+    }
+
+    // How many words of that part were read.
+    fn words_read(&self) -> u32
+        ensures { result ≡ length self.now.log.table.words.items }
+    {
+        let table = &*self.log.table;
+        table.words.len()
     }
 
     /// Reads the next word of the part that is being read, as a step does where one is left.
@@ -142,9 +150,17 @@ impl<'t, T: TxType, B: Body> Attempt<'t, T, B> {
         let at = cells.start();
         self.at = at;
         let reached = self.log.go_on(alloc)?;
-        let (read_phase, turn) = lead(&self.log.table.set, at, reached);
+        let (read_phase, turn) = self.lead(reached);
         self.read_phase = read_phase;
         Ok(turn)
+    }
+
+    // Where the body's end, or the part that it needs, leads.
+    pub(crate) fn lead(&self, reached: Reached) -> (ReadPhase, Turn)
+        ensures { IsLed self.now.at self.now.log.table.set.updates reached result.0 result.1 }
+    {
+        let table = &*self.log.table;
+        lead(&table.set, self.at, reached)
     }
 
     // Begins the read of a needed part.
@@ -155,6 +171,8 @@ impl<'t, T: TxType, B: Body> Attempt<'t, T, B> {
         ensures log { self.new.log ≡ with_words self.old.log self.new.log.table.words }
         ensures extension { self.new.log.table.extension ≡ self.old.log.table.extension }
     {
+        let ty = self.log.ty;
+        let table = &mut *self.log.table;
         let found = cells.open(part);
         if found.is_locked() {
             self.read_phase = ReadPhase::Over;
@@ -162,12 +180,11 @@ impl<'t, T: TxType, B: Body> Attempt<'t, T, B> {
         }
         let ticket = found.ticket();
         if ticket <= self.at {
-            let ty = self.log.ty;
-            make_room(&mut self.log.table.words, ty.width(part));
+            make_room(&mut table.words, ty.width(part));
             self.read_phase = ReadPhase::Reading { part, ticket };
             return Turn::More;
         }
-        if self.log.table.extension.extended {
+        if table.extension.extended {
             self.read_phase = ReadPhase::Over;
             return Turn::Ended(Verdict::Changed {
                 at: self.at,
@@ -184,8 +201,9 @@ impl<'t, T: TxType, B: Body> Attempt<'t, T, B> {
         requires { IsBeforeWord T.TxType B.Body (Reading part ticket) part self.old (C.view cells.old) }
         ensures { HasReadWord T.TxType B.Body C.Cells (Reading part ticket) part self.old self.new cells.old cells.new result }
     {
-        let value = cells.word(part, self.log.table.words.len());
-        self.log.table.words.push(value)?;
+        let table = &mut *self.log.table;
+        let value = cells.word(part, table.words.len());
+        table.words.push(value)?;
         Ok(Turn::More)
     }
 
@@ -217,11 +235,11 @@ impl<'t, T: TxType, B: Body> Attempt<'t, T, B> {
                 ticket: newer,
             }));
         }
-        if self.log.table.base.len() == u32::MAX {
+        let ty = self.log.ty;
+        let table = &mut *self.log.table;
+        if table.base.len() == u32::MAX {
             return Err(NoMemory);
         }
-        let ty = self.log.ty;
-        let table = &mut self.log.table;
         let words = table.words.as_slice();
         table.base.push(part, ticket, words)?;
         // What was just read is known at once, so that the call is not planned once more only to ask for it.
@@ -236,8 +254,9 @@ impl<'t, T: TxType, B: Body> Attempt<'t, T, B> {
         let extended = table.extension.extended;
         let heard = table.replies.len();
         let reached = self.log.go_on(alloc)?;
-        let (read_phase, turn) = lead(&self.log.table.set, self.at, reached);
-        self.log.table.extension.extended = still(extended, heard, self.log.table.replies.len());
+        let (read_phase, turn) = self.lead(reached);
+        let after = &mut *self.log.table;
+        after.extension.extended = still(extended, heard, after.replies.len());
         self.read_phase = read_phase;
         Ok(turn)
     }
@@ -247,9 +266,10 @@ impl<'t, T: TxType, B: Body> Attempt<'t, T, B> {
         requires { IsExtending T.TxType B.Body self.old }
         ensures { HasGoneOn T.TxType B.Body self.old self.new result }
     {
-        let place = self.log.table.extension.fresh.len();
-        if place < self.log.table.extension.watches.len() {
-            let watch = self.log.table.extension.watches.get(place);
+        let table = &mut *self.log.table;
+        let place = table.extension.fresh.len();
+        if place < table.extension.watches.len() {
+            let watch = table.extension.watches.get(place);
             let part = watch.part;
             if watch.seen {
                 self.read_phase = ReadPhase::Rechecking { part };
@@ -258,16 +278,16 @@ impl<'t, T: TxType, B: Body> Attempt<'t, T, B> {
             }
             return Ok(Turn::More);
         }
-        self.at = self.log.table.extension.bound;
-        let table = &mut self.log.table;
+        self.at = table.extension.bound;
         mem::swap(&mut table.base, &mut table.extension.fresh);
         table.extension.fresh.clear();
         table.cache.forget();
         let extended = table.extension.extended;
         let heard = table.replies.len();
         let reached = self.log.go_on(alloc)?;
-        let (read_phase, turn) = lead(&self.log.table.set, self.at, reached);
-        self.log.table.extension.extended = still(extended, heard, self.log.table.replies.len());
+        let (read_phase, turn) = self.lead(reached);
+        let after = &mut *self.log.table;
+        after.extension.extended = still(extended, heard, after.replies.len());
         self.read_phase = read_phase;
         Ok(turn)
     }
@@ -279,9 +299,10 @@ impl<'t, T: TxType, B: Body> Attempt<'t, T, B> {
         // (whichever part it is for)
         ensures { HasStepped T.TxType B.Body C.Cells (Renewing 0 0) Renew self.old self.new cells.old cells.new result }
     {
+        let table = &mut *self.log.table;
         let bound = cells.renew();
-        let watches = self.log.table.set.observed()?;
-        let extension = &mut self.log.table.extension;
+        let watches = table.set.observed()?;
+        let extension = &mut table.extension;
         extension.fresh.clear();
         extension.bound = bound;
         extension.watches = watches;
@@ -299,7 +320,7 @@ impl<'t, T: TxType, B: Body> Attempt<'t, T, B> {
         requires { IsUnderWay T.TxType B.Body (Rechecking part) self.old (C.view cells.old) }
         ensures { HasStepped T.TxType B.Body C.Cells (Rechecking part) (Recheck part) self.old self.new cells.old cells.new result }
     {
-        let table = &mut self.log.table;
+        let table = &mut *self.log.table;
         let Some(read_entry) = table.base.find(part) else {
             unreachable!()
         };
@@ -334,13 +355,15 @@ impl<'t, T: TxType, B: Body> Attempt<'t, T, B> {
         ensures log { self.new.log ≡ with_words self.old.log self.new.log.table.words }
         ensures extension { self.new.log.table.extension ≡ self.old.log.table.extension }
     {
+        let ty = self.log.ty;
+        let table = &mut *self.log.table;
         let found = cells.open(part);
         if found.is_locked() {
             self.read_phase = ReadPhase::Over;
             return Turn::Ended(Verdict::Locked { at: self.at, part });
         }
         let ticket = found.ticket();
-        if ticket > self.log.table.extension.bound {
+        if ticket > table.extension.bound {
             self.read_phase = ReadPhase::Over;
             return Turn::Ended(Verdict::Changed {
                 at: self.at,
@@ -348,8 +371,7 @@ impl<'t, T: TxType, B: Body> Attempt<'t, T, B> {
                 ticket,
             });
         }
-        let ty = self.log.ty;
-        make_room(&mut self.log.table.words, ty.width(part));
+        make_room(&mut table.words, ty.width(part));
         self.read_phase = ReadPhase::Rereading { part, ticket };
         Turn::More
     }
@@ -364,8 +386,9 @@ impl<'t, T: TxType, B: Body> Attempt<'t, T, B> {
         requires { IsBeforeWord T.TxType B.Body (Rereading part ticket) part self.old (C.view cells.old) }
         ensures { HasReadWord T.TxType B.Body C.Cells (Rereading part ticket) part self.old self.new cells.old cells.new result }
     {
-        let value = cells.word(part, self.log.table.words.len());
-        self.log.table.words.push(value)?;
+        let table = &mut *self.log.table;
+        let value = cells.word(part, table.words.len());
+        table.words.push(value)?;
         Ok(Turn::More)
     }
 
@@ -381,6 +404,8 @@ impl<'t, T: TxType, B: Body> Attempt<'t, T, B> {
         requires all { length self.old.log.table.words.items ≡ part_width T.TxType B.Body self.old part }
         ensures { HasStepped T.TxType B.Body C.Cells (Rereading part ticket) (Close part) self.old self.new cells.old cells.new result }
     {
+        let ty = self.log.ty;
+        let table = &mut *self.log.table;
         let found = cells.close(part);
         if found.is_locked() {
             self.read_phase = ReadPhase::Over;
@@ -395,8 +420,6 @@ impl<'t, T: TxType, B: Body> Attempt<'t, T, B> {
                 ticket: newer,
             }));
         }
-        let ty = self.log.ty;
-        let table = &mut self.log.table;
         let place = table.extension.fresh.len();
         let watch = table.extension.watches.get(place);
         if !are_true(ty, watch.preds.as_slice(), table.words.as_slice()) {

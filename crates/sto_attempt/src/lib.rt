@@ -11,4 +11,4 @@ mod testing;
 pub use attempt::Attempt;
 pub use pause::Paused;
 pub use ready::Ready;
-pub use sto_attempt_log::{AttemptLists, Heard, ReadSet, Table, Turn, Verdict};
+pub use sto_attempt_log::{AttemptLists, BoxedTable, Heard, ReadSet, Turn, Verdict};

@@ -3,7 +3,7 @@ ghost use Rattle.std.specs.Prelude.{◌≡◌};
 ghost use Rattle.sto_attempt.specs.Pausing.{with_type};
 
 use crate::attempt::Attempt;
-use sto_attempt_log::{Log, ReadPhase, Table};
+use sto_attempt_log::{BoxedTable, Log, ReadPhase};
 use sto_model::{Body, Replies};
 use sto_type::TxType;
 
@@ -11,7 +11,7 @@ use sto_type::TxType;
 #[derive(Drop)]
 pub struct Paused<B: Body> {
     pub(crate) body: B,
-    pub(crate) table: Table,
+    pub(crate) table: BoxedTable,
     pub(crate) at: u64,
     pub(crate) read_phase: ReadPhase,
 }

@@ -7,7 +7,8 @@ ghost use Rattle.sto_core.specs.Allowed.{Rises};
 ghost use Rattle.sto_attempt.specs.Commits.{lists_of, MovesOnly, IsBefore, AdvancesNext, HasAdvanced, HasPrefix};
 
 use sto_attempt_log::{
-    AttemptLists, CommitPhase, FoundTicket, Heard, LoadedWord, Log, Verdict, is_seen, is_written,
+    AttemptLists, CommitPhase, FoundTicket, Heard, LoadedWord, Log, Table, Verdict, is_seen,
+    is_written,
 };
 use sto_core::Cells;
 use sto_model::{Body, Replies};
@@ -81,17 +82,18 @@ impl<T: TxType, B: Body> Ready<'_, T, B> {
         requires { IsBefore T.TxType B.Body (Locking place) self.old (C.view cells.old) }
         ensures { HasAdvanced T.TxType B.Body C.Cells (Locking place) self.old self.new cells.old cells.new result }
     {
-        let part = self.log.table.lists.updates.get(place).0;
+        let table = &mut *self.log.table;
+        let part = table.lists.updates.get(place).0;
         let found = cells.lock(part);
         if found.is_locked() {
             let verdict = Verdict::Locked { at: self.at, part };
             return self.give_up(place, verdict);
         }
         let ticket = found.ticket();
-        let lists = &mut self.log.table.lists;
+        let lists = &mut table.lists;
         lists.found_tickets.push_spare(FoundTicket { part, ticket });
         let next = place + 1;
-        self.commit_phase = if next < self.log.table.lists.updates.len() {
+        self.commit_phase = if next < table.lists.updates.len() {
             CommitPhase::Locking { place: next }
         } else {
             self.aim(0)
@@ -104,12 +106,13 @@ impl<T: TxType, B: Body> Ready<'_, T, B> {
         requires { place ≤ length (lists_of self.now).tasks.items }
         ensures { IsAim (lists_of self.now).updates.items (lists_of self.now).tasks.items place result }
     {
-        if place == self.log.table.lists.tasks.len() {
+        let table = &*self.log.table;
+        if place == table.lists.tasks.len() {
             return CommitPhase::Drawing;
         }
         if is_written(
-            self.log.table.lists.updates.as_slice(),
-            *self.log.table.lists.tasks.get(place),
+            table.lists.updates.as_slice(),
+            *table.lists.tasks.get(place),
         ) {
             CommitPhase::Loading { place, word: 0 }
         } else {
@@ -127,10 +130,12 @@ impl<T: TxType, B: Body> Ready<'_, T, B> {
         requires { IsBefore T.TxType B.Body (Loading place word) self.old (C.view cells.old) }
         ensures { HasAdvanced T.TxType B.Body C.Cells (Loading place word) self.old self.new cells.old cells.new result }
     {
-        let part = *self.log.table.lists.tasks.get(place);
-        let width = self.log.ty.width(part);
+        let ty = self.log.ty;
+        let table = &mut *self.log.table;
+        let part = *table.lists.tasks.get(place);
+        let width = ty.width(part);
         let value = cells.word(part, word);
-        let lists = &mut self.log.table.lists;
+        let lists = &mut table.lists;
         lists
             .loaded_words
             .push_spare(LoadedWord { part, word, value });
@@ -145,7 +150,8 @@ impl<T: TxType, B: Body> Ready<'_, T, B> {
             self.commit_phase = self.aim(place + 1);
             return None;
         }
-        let ticket = self.log.table.lists.found_tickets.ticket(part);
+        let table = &*self.log.table;
+        let ticket = table.lists.found_tickets.ticket(part);
         let verdict = Verdict::Changed {
             at: self.at,
             part,
@@ -153,7 +159,7 @@ impl<T: TxType, B: Body> Ready<'_, T, B> {
         };
         self.commit_phase = CommitPhase::Leaving {
             place: 0,
-            end: self.log.table.lists.updates.len(),
+            end: table.lists.updates.len(),
             verdict,
         };
         None
@@ -164,7 +170,8 @@ impl<T: TxType, B: Body> Ready<'_, T, B> {
         requires { IsBefore T.TxType B.Body Drawing self.old (C.view cells.old) }
         ensures { HasAdvanced T.TxType B.Body C.Cells Drawing self.old self.new cells.old cells.new result }
     {
-        let lists = &self.log.table.lists;
+        let table = &mut *self.log.table;
+        let lists = &table.lists;
         let ticket = cells.draw(&lists.updates, &lists.seen, &lists.loaded);
         self.commit_phase = self.next_check(0, ticket);
         None
@@ -175,7 +182,8 @@ impl<T: TxType, B: Body> Ready<'_, T, B> {
         requires { place ≤ length (lists_of self.now).checks.items }
         ensures { IsNextCheck (lists_of self.now).checks.items place ticket result }
     {
-        if place == self.log.table.lists.checks.len() {
+        let table = &*self.log.table;
+        if place == table.lists.checks.len() {
             CommitPhase::Deciding { ticket }
         } else {
             CommitPhase::Checking { place, ticket }
@@ -192,15 +200,16 @@ impl<T: TxType, B: Body> Ready<'_, T, B> {
         requires { IsBefore T.TxType B.Body (Checking place ticket) self.old (C.view cells.old) }
         ensures { HasAdvanced T.TxType B.Body C.Cells (Checking place ticket) self.old self.new cells.old cells.new result }
     {
-        let part = *self.log.table.lists.checks.get(place);
+        let table = &mut *self.log.table;
+        let part = *table.lists.checks.get(place);
         let found = cells.check(part);
-        if found.is_locked() && !is_written(self.log.table.lists.updates.as_slice(), part) {
+        if found.is_locked() && !is_written(table.lists.updates.as_slice(), part) {
             let verdict = Verdict::Locked { at: self.at, part };
             self.commit_phase = CommitPhase::Dropping { ticket, verdict };
             return None;
         }
         let newer = found.ticket();
-        if newer != self.expected(part) {
+        if newer != expected(table, part) {
             let verdict = Verdict::Changed {
                 at: self.at,
                 part,
@@ -218,29 +227,18 @@ impl<T: TxType, B: Body> Ready<'_, T, B> {
         requires { Rises (lists_of self.now).seen.items }
         ensures { result ≡ goes_on (lists_of self.now).seen.items self.now.log.table.set.items (lists_of self.now).loaded_words.items part }
     {
-        is_seen(self.log.table.lists.seen.as_slice(), part) || self.all_so(part)
+        let table = &*self.log.table;
+        is_seen(table.lists.seen.as_slice(), part) || self.all_so(part)
     }
 
     // Whether the type finds the predicates on a part to be true of the words that were loaded.
     pub(crate) fn all_so(&self, part: u32) -> bool
         ensures { result ≡ list_all (is_so part (lists_of self.now).loaded_words.items) self.now.log.table.set.items }
     {
-        let table = &self.log.table;
+        let table = &*self.log.table;
         table
             .set
             .all_so(self.log.ty, &table.lists.loaded_words, part)
-    }
-
-    // The ticket that the check of a part is to find.
-    fn expected(&self, part: u32) -> u64
-        requires { Rises (lists_of self.now).seen.items }
-        ensures { result ≡ expected_of self.now.log.table.base.items (lists_of self.now).found_tickets.items (lists_of self.now).seen.items part }
-    {
-        if is_seen(self.log.table.lists.seen.as_slice(), part) {
-            self.log.table.base.ticket(part)
-        } else {
-            self.log.table.lists.found_tickets.ticket(part)
-        }
     }
 
     // Drops the entry.
@@ -253,10 +251,11 @@ impl<T: TxType, B: Body> Ready<'_, T, B> {
         requires { IsBefore T.TxType B.Body (Dropping ticket verdict) self.old (C.view cells.old) }
         ensures { HasAdvanced T.TxType B.Body C.Cells (Dropping ticket verdict) self.old self.new cells.old cells.new result }
     {
+        let table = &mut *self.log.table;
         cells.decide(false);
         self.commit_phase = CommitPhase::Leaving {
             place: 0,
-            end: self.log.table.lists.updates.len(),
+            end: table.lists.updates.len(),
             verdict,
         };
         None
@@ -277,7 +276,8 @@ impl<T: TxType, B: Body> Ready<'_, T, B> {
         requires { place ≤ length (lists_of self.now).places.items }
         ensures { IsNextPut (lists_of self.now).places.items place ticket result }
     {
-        if place == self.log.table.lists.places.len() {
+        let table = &*self.log.table;
+        if place == table.lists.places.len() {
             CommitPhase::Releasing { place: 0, ticket }
         } else {
             CommitPhase::Putting { place, ticket }
@@ -294,10 +294,12 @@ impl<T: TxType, B: Body> Ready<'_, T, B> {
         requires { IsBefore T.TxType B.Body (Putting place ticket) self.old (C.view cells.old) }
         ensures { HasAdvanced T.TxType B.Body C.Cells (Putting place ticket) self.old self.new cells.old cells.new result }
     {
-        let (part, word) = *self.log.table.lists.places.get(place);
-        let change = self.log.table.set.pending(part, word);
-        let words = &self.log.table.lists.loaded_words;
-        let value = self.log.ty.install(change, words.value(part, word));
+        let ty = self.log.ty;
+        let table = &mut *self.log.table;
+        let (part, word) = *table.lists.places.get(place);
+        let change = table.set.pending(part, word);
+        let words = &table.lists.loaded_words;
+        let value = ty.install(change, words.value(part, word));
         cells.put(part, word, value);
         self.commit_phase = self.next_put(place + 1, ticket);
         None
@@ -313,10 +315,11 @@ impl<T: TxType, B: Body> Ready<'_, T, B> {
         requires { IsBefore T.TxType B.Body (Releasing place ticket) self.old (C.view cells.old) }
         ensures { HasAdvanced T.TxType B.Body C.Cells (Releasing place ticket) self.old self.new cells.old cells.new result }
     {
-        let part = self.log.table.lists.updates.get(place).0;
+        let table = &mut *self.log.table;
+        let part = table.lists.updates.get(place).0;
         cells.release(part);
         let next = place + 1;
-        if next < self.log.table.lists.updates.len() {
+        if next < table.lists.updates.len() {
             self.commit_phase = CommitPhase::Releasing {
                 place: next,
                 ticket,
@@ -356,7 +359,8 @@ impl<T: TxType, B: Body> Ready<'_, T, B> {
         requires { IsBefore T.TxType B.Body (Leaving place end verdict) self.old (C.view cells.old) }
         ensures { HasAdvanced T.TxType B.Body C.Cells (Leaving place end verdict) self.old self.new cells.old cells.new result }
     {
-        let part = self.log.table.lists.updates.get(place).0;
+        let table = &mut *self.log.table;
+        let part = table.lists.updates.get(place).0;
         cells.unlock(part);
         let next = place + 1;
         if next < end {
@@ -369,5 +373,17 @@ impl<T: TxType, B: Body> Ready<'_, T, B> {
         }
         self.commit_phase = CommitPhase::Over;
         Some(verdict)
+    }
+}
+
+// The ticket that the check of a part is to find.
+fn expected(table: &Table, part: u32) -> u64
+    requires { Rises table.now.lists.seen.items }
+    ensures { result ≡ expected_of table.now.base.items table.now.lists.found_tickets.items table.now.lists.seen.items part }
+{
+    if is_seen(table.lists.seen.as_slice(), part) {
+        table.base.ticket(part)
+    } else {
+        table.lists.found_tickets.ticket(part)
     }
 }

@@ -6,7 +6,7 @@ ghost use Rattle.sto_attempt.specs.Attempts.{IsOwnLog, Waits, HasResumed};
 use crate::attempt::Attempt;
 use std::alloc::Global;
 use std::mem;
-use sto_attempt_log::{Turn, lead};
+use sto_attempt_log::Turn;
 use sto_model::Body;
 use sto_part::NoMemory;
 use sto_type::TxType;
@@ -28,9 +28,10 @@ impl<T: TxType, B: Body> Attempt<'_, T, B> {
         requires waits { (v : View) × Waits T.TxType B.Body self.old v }
         ensures { HasResumed T.TxType B.Body self.old self.new result }
     {
-        self.log.table.extension.extended = false;
+        let table = &mut *self.log.table;
+        table.extension.extended = false;
         let reached = self.log.go_on(alloc)?;
-        let (read_phase, turn) = lead(&self.log.table.set, self.at, reached);
+        let (read_phase, turn) = self.lead(reached);
         self.read_phase = read_phase;
         Ok(turn)
     }

@@ -15,19 +15,20 @@ impl<T: TxType, B: Body> Ready<'_, T, B> {
         requires { IsBefore T.TxType B.Body (Testing place) self.old (C.view cells.old) }
         ensures { HasAdvanced T.TxType B.Body C.Cells (Testing place) self.old self.new cells.old cells.new result }
     {
-        let part = *self.log.table.lists.tasks.get(place);
+        let table = &mut *self.log.table;
+        let part = *table.lists.tasks.get(place);
         let found = cells.test(part);
         if found.is_locked() {
             let verdict = Verdict::Locked { at: self.at, part };
             self.commit_phase = CommitPhase::Leaving {
                 place: 0,
-                end: self.log.table.lists.updates.len(),
+                end: table.lists.updates.len(),
                 verdict,
             };
             return None;
         }
         let ticket = found.ticket();
-        let lists = &mut self.log.table.lists;
+        let lists = &mut table.lists;
         lists.found_tickets.push_spare(FoundTicket { part, ticket });
         self.commit_phase = CommitPhase::Tested {
             place,
@@ -48,7 +49,9 @@ impl<T: TxType, B: Body> Ready<'_, T, B> {
         requires { IsBefore T.TxType B.Body (Tested place word ticket) self.old (C.view cells.old) }
         ensures { HasAdvanced T.TxType B.Body C.Cells (Tested place word ticket) self.old self.new cells.old cells.new result }
     {
-        let width = self.log.ty.width(*self.log.table.lists.tasks.get(place));
+        let ty = self.log.ty;
+        let table = &mut *self.log.table;
+        let width = ty.width(*table.lists.tasks.get(place));
         if word < width {
             self.load_tested(cells, place, word, ticket, width)
         } else {
@@ -70,9 +73,10 @@ impl<T: TxType, B: Body> Ready<'_, T, B> {
         requires more { word < width }
         ensures { HasAdvanced T.TxType B.Body C.Cells (Tested place word ticket) self.old self.new cells.old cells.new result }
     {
-        let part = *self.log.table.lists.tasks.get(place);
+        let table = &mut *self.log.table;
+        let part = *table.lists.tasks.get(place);
         let value = cells.word(part, word);
-        let lists = &mut self.log.table.lists;
+        let lists = &mut table.lists;
         lists
             .loaded_words
             .push_spare(LoadedWord { part, word, value });
@@ -97,13 +101,15 @@ impl<T: TxType, B: Body> Ready<'_, T, B> {
         ensures advanced { HasAdvanced T.TxType B.Body C.Cells (Tested place word ticket) self.old self.new cells.old cells.new result }
         ensures loads { (lists_of self.new).loaded_words ≡ (lists_of self.old).loaded_words }
     {
-        let part = *self.log.table.lists.tasks.get(place);
+        let table = &mut *self.log.table;
+        let part = *table.lists.tasks.get(place);
+        let end = table.lists.updates.len();
         let found = cells.close(part);
         if found.is_locked() {
             let verdict = Verdict::Locked { at: self.at, part };
             self.commit_phase = CommitPhase::Leaving {
                 place: 0,
-                end: self.log.table.lists.updates.len(),
+                end,
                 verdict,
             };
             return None;
@@ -117,7 +123,7 @@ impl<T: TxType, B: Body> Ready<'_, T, B> {
             };
             self.commit_phase = CommitPhase::Leaving {
                 place: 0,
-                end: self.log.table.lists.updates.len(),
+                end,
                 verdict,
             };
             return None;
@@ -133,7 +139,7 @@ impl<T: TxType, B: Body> Ready<'_, T, B> {
         };
         self.commit_phase = CommitPhase::Leaving {
             place: 0,
-            end: self.log.table.lists.updates.len(),
+            end,
             verdict,
         };
         None

@@ -1,11 +1,12 @@
 //! The lists that a worker lends to one attempt after the other.
 ghost use Rattle.std.specs.Prelude.{◌≡◌};
 
-use crate::table::Table;
+use crate::boxed_table::BoxedTable;
 use std::alloc::Global;
 use std::marker::Model;
 use std::mem;
 use sto_model::Replies;
+use sto_part::NoMemory;
 
 /// The lists of attempts while no attempt uses them, with the room that earlier ones have made.
 ///
@@ -14,7 +15,7 @@ use sto_model::Replies;
 pub struct AttemptLists {
     alloc: Global,
     // None before the first attempt, and while one has them. After want of memory they are lost, and the next attempt begins with none.
-    table: Option<Table>,
+    table: Option<BoxedTable>,
 }
 
 impl Drop for AttemptLists {
@@ -39,15 +40,15 @@ impl AttemptLists {
     }
 
     /// Takes the table of an attempt. Where there is none, it makes one whose lists have no room yet.
-    pub fn take(&mut self) -> Table {
+    pub fn take(&mut self) -> Result<BoxedTable, NoMemory> {
         match mem::replace(&mut self.table, None) {
-            Some(table) => table,
-            None => Table::new(self.alloc),
+            Some(table) => Ok(table),
+            None => BoxedTable::new(self.alloc),
         }
     }
 
     /// Keeps the table of an attempt that has ended, and answers its replies.
-    pub fn keep(&mut self, table: Table) -> Replies
+    pub fn keep(&mut self, table: BoxedTable) -> Replies
         ensures { result ≡ table.replies }
     {
         let mut table = table;

@@ -4,6 +4,7 @@
 #![tactic(auto)]
 
 mod attempt_lists;
+mod boxed_table;
 mod commit_phase;
 mod extension;
 mod found_tickets;
@@ -19,6 +20,7 @@ mod table;
 mod verdict;
 
 pub use attempt_lists::AttemptLists;
+pub use boxed_table::BoxedTable;
 pub use commit_phase::{CommitPhase, FoundTicket, LoadedWord};
 pub use extension::Extension;
 pub use found_tickets::FoundTickets;

@@ -1,10 +1,14 @@
 -- An attempt of a body without a call, after its first event.
-use Rattle.std.proofs.Common.{◌≡◌, ◌<◌, ℕ, false, [], refl, sym, ap, ◌∙◌}
+use Rattle.std.proofs.Common.{◌≡◌, ◌<◌, ℕ, false, [], refl, sym, ap, ◌∙◌, subst, pos}
 use Rattle.sto_model.specs.Run.{Behaviour}
 use Rattle.sto_model.specs.declared.run.End.TheVariants as E
 use Rattle.sto_type.specs.Known.{Parts}
 use Rattle.sto_type.specs.Traits.{OfType}
 use Rattle.sto_core.specs.Event.{Start}
+use Rattle.sto_core.specs.Tells.{Tells}
+use Rattle.sto_core.specs.Allowed.{IsIdle}
+use Rattle.sto_core.specs.declared.view.Phase.TheVariants as P
+use Rattle.sto_attempt_log.specs.declared.extension.Extension.{Extension}
 use Rattle.sto_core.specs.declared.view.View.{View}
 use Rattle.sto_attempt_log.specs.Answers.{OneEvent}
 use Rattle.sto_attempt_log.specs.declared.read_phase.ReadPhase.TheVariants.{Unstarted}
@@ -46,3 +50,13 @@ module _ {T : Type 0} (t : OfType T) (passes : ℕ) (ty : T) (a k : Attempt T As
 
     pub start_silent : ((d : Parts) → t.valid (t.sizes k.log.ty.now) d → (t.meaning k.log.ty.now).valid d) → heard k ≡ []
     start_silent is = none_more [] (heard k) (so_many t asked ty [] E.Commit k begun w is start_waits)
+
+-- a transaction of which no more than the first event was made
+pub start_alone : {T : Type 0} (t : OfType T) (passes : ℕ) (ty : T) (begun w : View) (n : ℕ) → IsAtRest (t.meaning ty) (t.sizes ty) begun → 0 < begun.draws → Tells t.valid passes Start begun n (pos 0) w → HasStopped (t.meaning ty) (t.sizes ty) begun w
+start_alone t passes ty begun w n rest draws tells =
+    let begins = tells.learns.1 in
+    let phase : w.phase ≡ P.Reading = ap (λ (x : View). x.phase) tells.after in
+    let none : Extension = record { bound = 0; extended = false; fresh = record { items = []; spare = 0 }; watches = record { items = []; spare = 0 } } in
+    let led = has_led (t.meaning ty) t.valid (t.sizes ty) (script_of [] E.Commit) 0 [] none [] [] [] [] passes begun begun w Unstarted (rest.idle, rest.sized, draws, refl, refl) refl
+    (record { event = Start; of_kind = refl; number = n; value = pos 0; tells = tells }) in
+    stopped (t.meaning ty) (t.sizes ty) begun w rest led.read (record { idle = subst IsIdle (sym phase) tt; unheld = begins.held; decided = begins.decided })

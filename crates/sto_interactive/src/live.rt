@@ -58,8 +58,16 @@ impl<'t, T: TxType> Live<'t, T> {
         ensures err { OnErr result (HasStopped (T.meaning ty.now) (T.sizes ty.now) (C.view cells.old) (C.view cells.new)) }
         ensures same { C.same cells.old cells.new }
     {
+        let table = match lists.attempts.take() {
+            Ok(table) => table,
+            Err(NoMemory) => {
+                // it was begun all the same, as where its body wants memory
+                cells.start();
+                return Err(NoMemory);
+            }
+        };
         let body = AskedCalls::over(lists.take_calls());
-        let mut attempt = Attempt::new(ty, body, lists.attempts.take());
+        let mut attempt = Attempt::new(ty, body, table);
         attempt.begin(alloc, cells)?;
         Ok(Live { ty, attempt })
     }

@@ -75,7 +75,7 @@ impl<'w, T: TxType, G: Gate> Attempts<T, Machine<'w, T, ScriptBody<'w>>> for Ste
         let file = work.workload.file;
         let script = file.threads.get(thread).scripts.get(position - 1);
         let body = ScriptBody::new(alloc, script)?;
-        Ok(Machine::new(work.ty, body, memory.take()))
+        Ok(Machine::new(work.ty, body, memory.take()?))
     }
 
     fn step<C: Cells<T>>(

@@ -9,5 +9,5 @@ mod transaction;
 
 pub use machine::{FinishedAttempt, Machine};
 pub use record::Record;
-pub use sto_attempt::{AttemptLists, Table};
+pub use sto_attempt::{AttemptLists, BoxedTable};
 pub use transaction::{AttemptWatch, Transacted, Transaction};

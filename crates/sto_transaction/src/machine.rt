@@ -8,7 +8,7 @@ ghost use Rattle.sto_transaction.specs.Leading.{IsLedTo, MayGoOn, MakesOne, Turn
 
 use std::alloc::Global;
 use std::mem;
-use sto_attempt::{Attempt, AttemptLists, Ready, Table, Turn, Verdict};
+use sto_attempt::{Attempt, AttemptLists, BoxedTable, Ready, Turn, Verdict};
 use sto_core::Cells;
 use sto_model::{Body, Replies};
 use sto_part::NoMemory;
@@ -41,7 +41,7 @@ impl<'t, T: TxType, B: Body + Drop> Machine<'t, T, B> {
     ///
     /// The type is to take every call that the body may ask. The table is worked on in place; the last step puts it back.
     #[inline(always)]
-    pub fn new(ty: &'t T, body: B, table: Table) -> Machine<'t, T, B>
+    pub fn new(ty: &'t T, body: B, table: BoxedTable) -> Machine<'t, T, B>
         requires { (call : Call) → B.may_ask body call → (T.meaning ty.now).takes call }
         ensures proceeds { (passes : ℕ) (v : View) → IsAtRest (T.meaning ty.now) (T.sizes ty.now) v → 0 < v.draws
             → IsLedTo T.TxType B.Body passes ty.now (B.script body) result v v }

@@ -13,7 +13,7 @@ use crate::machine::{FinishedAttempt, Machine};
 use crate::record::Record;
 use std::alloc::{AllocError, Global};
 use std::mem;
-use sto_attempt::{Attempt, AttemptLists, Verdict};
+use sto_attempt::{Attempt, AttemptLists, BoxedTable, Verdict};
 use sto_core::Cells;
 use sto_model::Body;
 use sto_part::NoMemory;
@@ -56,7 +56,8 @@ impl<T: TxType, B: Body + Drop> Transaction<'_, T, B> {
     /// Runs it on a pass that is at rest and has a draw left for each try: attempts are made until one commits or cancels, or all were
     /// aborted.
     ///
-    /// Each attempt adds its record: what its calls were answered, and how it ended. Room for the record is made before the attempt.
+    /// Each attempt adds its record: what its calls were answered, and how it ended. Room for the record and for what the attempt works on
+    /// is made before it.
     /// After `NoMemory` the pass is at rest again, and the records of the attempts before stay. The lists are lent to each attempt in turn.
     pub fn run<C: Cells<T>, W: AttemptWatch>(
         self,
@@ -93,7 +94,8 @@ impl<T: TxType, B: Body + Drop> Transaction<'_, T, B> {
             if let Err(AllocError) = records.reserve(1) {
                 return Err(NoMemory);
             }
-            let attempt = run_attempt(alloc, ty, body, cells, watch, lists)?;
+            let table = lists.take()?;
+            let attempt = run_attempt(alloc, ty, body, table, cells, watch, lists)?;
             body = attempt.body;
             let ended = !is_abort(attempt.verdict);
             records.push_reserved(Record {
@@ -110,11 +112,12 @@ impl<T: TxType, B: Body + Drop> Transaction<'_, T, B> {
     }
 }
 
-// Runs one attempt of a body to its end.
+// Runs one attempt of a body to its end, on this table.
 fn run_attempt<T: TxType, B: Body + Drop, C: Cells<T>, W: AttemptWatch>(
     alloc: Global,
     ty: &T,
     body: B,
+    table: BoxedTable,
     cells: &mut C,
     watch: &mut W,
     lists: &mut AttemptLists,
@@ -129,7 +132,7 @@ fn run_attempt<T: TxType, B: Body + Drop, C: Cells<T>, W: AttemptWatch>(
     ensures steps { (C.view cells.new).steps ≤ (C.view cells.old).steps + most_steps (T.meaning ty.now) (B.left_at_reset body) }
     ensures same { C.same cells.old cells.new }
 {
-    let mut machine = Machine::new(ty, body, lists.take());
+    let mut machine = Machine::new(ty, body, table);
     let ended = finish(alloc, &mut machine, cells, watch, lists);
     mem::drop(machine);
     ended

@@ -18,6 +18,10 @@ pub mod mem {
     pub use std::mem::{drop, replace, swap, take};
 }
 
+pub mod ops {
+    pub use std::ops::{Deref, DerefMut};
+}
+
 pub mod prelude {
     pub use super::boxed::Box;
     pub use super::newer::{CastSigned, CastUnsigned, ChunkBy};

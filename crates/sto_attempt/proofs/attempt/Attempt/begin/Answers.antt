@@ -1,9 +1,7 @@
-use Rattle.std.proofs.Common.{pos, IsTrue, ◌≡◌, List, ap, sym, subst, map, rules, refl}
-use Rattle.sto_part.specs.Listed.{Listed}
+use Rattle.std.proofs.Common.{pos, IsTrue, List, ap, sym, subst, map, rules, refl}
 use Rattle.sto_model.specs.PlainReplies.{plain_reply}
 use Rattle.sto_attempt_log.specs.declared.read_entry.ReadEntry.{ReadEntry}
 use Rattle.sto_attempt_log.specs.ReadSet.{AreClaimed, AreOnly}
-use Rattle.sto_attempt_log.specs.Standing.{Turned}
 use Rattle.sto_attempt_log.proofs.Reading.{start_rests, start_only, start_below, turned}
 use Rattle.sto_attempt_log.proofs.Stepping.{led_alone}
 use Rattle.sto_attempt_log.proofs.Lowering.{began_fewer}

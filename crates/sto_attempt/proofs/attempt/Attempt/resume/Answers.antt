@@ -1,10 +1,7 @@
 -- It goes on as after a read: what the view tells was told before.
-use Rattle.std.proofs.Common.{◌≡◌, ℕ, List, ap, sym, subst, map, refl, rules}
-use Rattle.sto_part.specs.Listed.{Listed}
+use Rattle.std.proofs.Common.{ℕ, List, subst, map, refl, rules}
 use Rattle.sto_model.specs.PlainReplies.{plain_reply}
-use Rattle.sto_attempt_log.specs.declared.read_entry.ReadEntry.{ReadEntry}
 use Rattle.sto_attempt_log.specs.declared.extension.Extension.{Extension}
-use Rattle.sto_attempt_log.specs.Standing.{Turned}
 use Rattle.std.proofs.Common.{false}
 use Rattle.sto_attempt_log.proofs.Claimed.{claims_fit, part_of_claims}
 use Rattle.sto_attempt_log.proofs.Reading.{turned}
@@ -13,13 +10,16 @@ use Rattle.sto_item.specs.Recorded.{Recorded}
 use Rattle.sto_attempt_log.specs.Doing.{Reader, HasComeTo}
 use Rattle.sto_attempt_log.proofs.ReadSteps.{runs_on_is}
 use Rattle.sto_attempt.specs.Attempts.{reader_of}
+use Rattle.sto_attempt.proofs.OnTable.{at_table, held_waits, own_resumed}
+use Rattle.sto_type.specs.Traits.{of_type}
 use Rattle.sto_attempt.proofs.attempt.Attempt.resume.Goals as goal
 
 pub go_on-requires-clause-some : goal.go_on-requires-clause-some
 go_on-requires-clause-some g c =
-    let a = c.args.self.now in
+    let waits_here = held_waits (of_type g.T.Naming g.T.TxType) g.B.Body c.args.self.now c.deref_mut-table.result.now c.deref_mut-table.ensures.value c.requires.waits.0 c.requires.waits.1 in
+    let a = at_table c.args.self.now c.deref_mut-table.result.now in
     let v = c.requires.waits.0 in
-    let h = c.requires.waits.1.0 in
+    let h = waits_here.0 in
     let whole = claims_fit g.T.Naming.valid v a.at h.fit in (
       whole.0,
       (g.met.T.TxType.valid_is a.log.ty.now whole.0).1 (subst (λ (l : List ℕ). g.T.Naming.valid l whole.0) h.own.same_sizes whole.1),
@@ -28,9 +28,9 @@ go_on-requires-clause-some g c =
 
 pub returns : goal.returns
 returns g c =
-    rw c.in_ok-reached.ensures.rest (record {
+    own_resumed (of_type g.T.Naming g.T.TxType) g.B.Body c.args.self.now c.deref_mut-table.result.now c.deref_mut-table.ensures.value (rw c.in_ok-reached.ensures.rest (record {
       log = search rules;
-      turned = λ v waits. (let a = c.args.self.now in
+      turned = λ v waits. (let a = at_table c.args.self.now c.deref_mut-table.result.now in
           let m = g.T.TxType.meaning a.log.ty.now in
           let sizes = g.T.Naming.sizes a.log.ty.now in
           let f = g.B.Body.script a.log.body in
@@ -44,7 +44,7 @@ returns g c =
           h.claimed h.only h.below fresh (λ e. cc) c.in_ok-reached.ensures.log.log c.in_ok-reached.reached c.lead-read_phase.result.0 c.lead-read_phase.result.1
           c.in_ok-reached.ensures.reached c.lead-read_phase.ensures);
       grown = search rules;
-      comes = (let a = c.args.self.now in
+      comes = (let a = at_table c.args.self.now c.deref_mut-table.result.now in
           let m = g.T.TxType.meaning a.log.ty.now in
           let f = g.B.Body.script a.log.body in
           let rs = map plain_reply c.go_on.new.self.table.replies.items in
@@ -61,4 +61,4 @@ returns g c =
       script = search rules;
       left_at_reset = search rules;
       ty = search rules;
-    })
+    }))

@@ -99,7 +99,7 @@ reclose-requires-clause-all g c =
     let p = c.in-Rereading.part in
     let goes : Renews m valid sizes (f rs) a.at (Rereading p c.in-Rereading.ticket) a.log.table.words.items a.log.table.extension a.log.table.base.items a.log.table.set.items v =
     subst (λ (s : ReadPhase). Goes m valid sizes f a.at s a.log.table.words.items a.log.table.extension a.log.table.base.items a.log.table.set.items a.log.table.set.updates rs v) c.in-Rereading.is c.requires.goes in
-    omega (arith, width_got m.widths p c.width-in-Rereading.result c.width-in-Rereading.ensures, c.if-len-width-2.false, c.len-in-Rereading.ensures, goes.stands.2)
+    omega (arith, width_got m.widths p c.width-in-Rereading.result c.width-in-Rereading.ensures, c.if-words_read-width-2.false, c.words_read-in-Rereading.ensures, goes.stands.2)
 
 pub returns-in-Unstarted-clause-prefix : goal.returns-in-Unstarted-clause-prefix
 returns-in-Unstarted-clause-prefix g c =
@@ -119,8 +119,8 @@ returns-in-Opening-clause-prefix g c =
     let a = c.args.self.now in
     stepped_prefix (of_type g.T.Naming g.T.TxType) g.B.Body g.C.Cells _ _ a c.open.new.self c.args.cells.now c.open.new.cells (Ok c.open.result) c.open.ensures.made
 
-pub returns-else-len-width-clause-prefix : goal.returns-else-len-width-clause-prefix
-returns-else-len-width-clause-prefix g c =
+pub returns-else-words_read-width-clause-prefix : goal.returns-else-words_read-width-clause-prefix
+returns-else-words_read-width-clause-prefix g c =
     let a = c.args.self.now in
     stepped_prefix (of_type g.T.Naming g.T.TxType) g.B.Body g.C.Cells _ _ a c.close.new.self c.args.cells.now c.close.new.cells c.close.result c.close.ensures.made
 
@@ -139,8 +139,8 @@ returns-in-Reopening-clause-prefix g c =
     let a = c.args.self.now in
     stepped_prefix (of_type g.T.Naming g.T.TxType) g.B.Body g.C.Cells _ _ a c.reopen.new.self c.args.cells.now c.reopen.new.cells (Ok c.reopen.result) c.reopen.ensures.made
 
-pub returns-else-len-width-2-clause-prefix : goal.returns-else-len-width-2-clause-prefix
-returns-else-len-width-2-clause-prefix g c =
+pub returns-else-words_read-width-2-clause-prefix : goal.returns-else-words_read-width-2-clause-prefix
+returns-else-words_read-width-2-clause-prefix g c =
     let a = c.args.self.now in
     stepped_prefix (of_type g.T.Naming g.T.TxType) g.B.Body g.C.Cells _ _ a c.reclose.new.self c.args.cells.now c.reclose.new.cells c.reclose.result c.reclose.ensures
 
@@ -152,7 +152,7 @@ close-requires-clause-all g c =
     let rs = map plain_reply a.log.table.replies.items in
     let v = g.C.Cells.view c.args.cells.now in
     let h = subst (λ (s : ReadPhase). Goes m g.T.Naming.valid (g.T.Naming.sizes a.log.ty.now) f a.at s a.log.table.words.items a.log.table.extension a.log.table.base.items a.log.table.set.items a.log.table.set.updates rs v) c.in-Reading.is c.requires.goes in
-    omega (arith, width_got m.widths c.in-Reading.part c.width.result c.width.ensures, c.if-len-width.false, c.len.ensures, h.0.stands.2)
+    omega (arith, width_got m.widths c.in-Reading.part c.width.result c.width.ensures, c.if-words_read-width.false, c.words_read.ensures, h.0.stands.2)
 
 pub returns-in-Unstarted-clause-same : goal.returns-in-Unstarted-clause-same
 returns-in-Unstarted-clause-same g c =
@@ -162,8 +162,8 @@ pub returns-in-Opening-clause-same : goal.returns-in-Opening-clause-same
 returns-in-Opening-clause-same g c =
     c.open.ensures.made.same
 
-pub returns-else-len-width-clause-same : goal.returns-else-len-width-clause-same
-returns-else-len-width-clause-same g c =
+pub returns-else-words_read-width-clause-same : goal.returns-else-words_read-width-clause-same
+returns-else-words_read-width-clause-same g c =
     c.close.ensures.made.same
 
 pub returns-in-Renewing-clause-same : goal.returns-in-Renewing-clause-same
@@ -178,8 +178,8 @@ pub returns-in-Reopening-clause-same : goal.returns-in-Reopening-clause-same
 returns-in-Reopening-clause-same g c =
     c.reopen.ensures.made.same
 
-pub returns-else-len-width-2-clause-same : goal.returns-else-len-width-2-clause-same
-returns-else-len-width-2-clause-same g c =
+pub returns-else-words_read-width-2-clause-same : goal.returns-else-words_read-width-2-clause-same
+returns-else-words_read-width-2-clause-same g c =
     c.reclose.ensures.same
 
 pub returns-in-Unstarted-clause-steps : goal.returns-in-Unstarted-clause-steps
@@ -214,11 +214,11 @@ returns-in-Opening-clause-steps g c =
     let a = c.args.self.now in
     steps_at (of_type g.T.Naming g.T.TxType) g.B.Body (g.C.Cells.passes c.args.cells.now) a c.open.new.self (g.C.Cells.view c.args.cells.now) (g.C.Cells.view c.open.new.cells) (Ok c.open.result) a.read_phase _ c.in-Opening.is c.open.ensures.made.steps
 
-pub returns-else-len-width-clause-steps : goal.returns-else-len-width-clause-steps
-returns-else-len-width-clause-steps g c =
+pub returns-else-words_read-width-clause-steps : goal.returns-else-words_read-width-clause-steps
+returns-else-words_read-width-clause-steps g c =
     let a = c.args.self.now in
     let m = g.T.TxType.meaning a.log.ty.now in
-    let long : slice_index_or m.widths c.in-Reading.part 0 ≤ length a.log.table.words.items = omega (arith, width_got m.widths c.in-Reading.part c.width.result c.width.ensures, c.if-len-width.false, c.len.ensures) in
+    let long : slice_index_or m.widths c.in-Reading.part 0 ≤ length a.log.table.words.items = omega (arith, width_got m.widths c.in-Reading.part c.width.result c.width.ensures, c.if-words_read-width.false, c.words_read.ensures) in
     let to : next_event m.widths a.read_phase a.log.table.words.items ≡ Close c.in-Reading.part = ap (λ (s : ReadPhase). next_event m.widths s a.log.table.words.items) c.in-Reading.is ∙ close_next m.widths c.in-Reading.part a.log.table.words.items long in
     steps_as (of_type g.T.Naming g.T.TxType) g.B.Body (g.C.Cells.passes c.args.cells.now) a c.close.new.self (g.C.Cells.view c.args.cells.now) (g.C.Cells.view c.close.new.cells) c.close.result a.read_phase _ c.in-Reading.is (Close c.in-Reading.part) to c.close.ensures.made.steps
 
@@ -238,11 +238,11 @@ returns-in-Reopening-clause-steps g c =
     let a = c.args.self.now in
     steps_at (of_type g.T.Naming g.T.TxType) g.B.Body (g.C.Cells.passes c.args.cells.now) a c.reopen.new.self (g.C.Cells.view c.args.cells.now) (g.C.Cells.view c.reopen.new.cells) (Ok c.reopen.result) a.read_phase _ c.in-Reopening.is c.reopen.ensures.made.steps
 
-pub returns-else-len-width-2-clause-steps : goal.returns-else-len-width-2-clause-steps
-returns-else-len-width-2-clause-steps g c =
+pub returns-else-words_read-width-2-clause-steps : goal.returns-else-words_read-width-2-clause-steps
+returns-else-words_read-width-2-clause-steps g c =
     let a = c.args.self.now in
     let m = g.T.TxType.meaning a.log.ty.now in
-    let long : slice_index_or m.widths c.in-Rereading.part 0 ≤ length a.log.table.words.items = omega (arith, width_got m.widths c.in-Rereading.part c.width-in-Rereading.result c.width-in-Rereading.ensures, c.if-len-width-2.false, c.len-in-Rereading.ensures) in
+    let long : slice_index_or m.widths c.in-Rereading.part 0 ≤ length a.log.table.words.items = omega (arith, width_got m.widths c.in-Rereading.part c.width-in-Rereading.result c.width-in-Rereading.ensures, c.if-words_read-width-2.false, c.words_read-in-Rereading.ensures) in
     let to : next_event m.widths a.read_phase a.log.table.words.items ≡ Close c.in-Rereading.part = ap (λ (s : ReadPhase). next_event m.widths s a.log.table.words.items) c.in-Rereading.is ∙ close_next m.widths c.in-Rereading.part a.log.table.words.items long in
     steps_as (of_type g.T.Naming g.T.TxType) g.B.Body (g.C.Cells.passes c.args.cells.now) a c.reclose.new.self (g.C.Cells.view c.args.cells.now) (g.C.Cells.view c.reclose.new.cells) c.reclose.result a.read_phase _ c.in-Rereading.is (Close c.in-Rereading.part) to c.reclose.ensures.steps
 
@@ -250,12 +250,12 @@ pub read_word-requires-clause-more : goal.read_word-requires-clause-more
 read_word-requires-clause-more g c =
     let a = c.args.self.now in
     let m = g.T.TxType.meaning a.log.ty.now in
-    let short : length a.log.table.words.items < slice_index_or m.widths c.in-Reading.part 0 = omega (arith, width_got m.widths c.in-Reading.part c.width.result c.width.ensures, c.if-len-width.true, c.len.ensures) in
+    let short : length a.log.table.words.items < slice_index_or m.widths c.in-Reading.part 0 = omega (arith, width_got m.widths c.in-Reading.part c.width.result c.width.ensures, c.if-words_read-width.true, c.words_read.ensures) in
     rw c.in-Reading.is (omega (arith, short))
 
-pub read_word-requires-then-len-width-2-clause-more : goal.read_word-requires-then-len-width-2-clause-more
-read_word-requires-then-len-width-2-clause-more g c =
+pub read_word-requires-then-words_read-width-2-clause-more : goal.read_word-requires-then-words_read-width-2-clause-more
+read_word-requires-then-words_read-width-2-clause-more g c =
     let a = c.args.self.now in
     let m = g.T.TxType.meaning a.log.ty.now in
-    let short : length a.log.table.words.items < slice_index_or m.widths c.in-Rereading.part 0 = omega (arith, width_got m.widths c.in-Rereading.part c.width-in-Rereading.result c.width-in-Rereading.ensures, c.if-len-width-2.true, c.len-in-Rereading.ensures) in
+    let short : length a.log.table.words.items < slice_index_or m.widths c.in-Rereading.part 0 = omega (arith, width_got m.widths c.in-Rereading.part c.width-in-Rereading.result c.width-in-Rereading.ensures, c.if-words_read-width-2.true, c.words_read-in-Rereading.ensures) in
     rw c.in-Rereading.is (omega (arith, short))

@@ -57,12 +57,12 @@ overflow_sub-result g c =
     let p = c.in-Reading.part in
     let goes : Fits m valid sizes f a.at (Reading p c.in-Reading.ticket) a.log.table.words.items a.log.table.base.items a.log.table.set.updates rs v × IsAsOf a.at a.log.table.extension =
     subst (λ (s : ReadPhase). Goes m valid sizes f a.at s a.log.table.words.items a.log.table.extension a.log.table.base.items a.log.table.set.items a.log.table.set.updates rs v) c.in-Reading.is c.requires.1.goes in
-    omega (arith, width_got m.widths p c.width.result c.width.ensures, c.len.ensures, goes.0.stands.2)
+    omega (arith, width_got m.widths p c.width.result c.width.ensures, c.words_read.ensures, goes.0.stands.2)
 
 pub returns-in-Reading-clause-left : goal.returns-in-Reading-clause-left
 returns-in-Reading-clause-left g c =
     let m = g.T.TxType.meaning c.args.self.now.log.ty.now in
-    rw c.in-Reading.is (omega (arith, width_got m.widths c.in-Reading.part c.width.result c.width.ensures, c.len.ensures))
+    rw c.in-Reading.is (omega (arith, width_got m.widths c.in-Reading.part c.width.result c.width.ensures, c.words_read.ensures))
 
 pub returns-in-Reading-clause-few : goal.returns-in-Reading-clause-few
 returns-in-Reading-clause-few g c some =
@@ -78,7 +78,7 @@ returns-in-Reading-clause-few g c some =
     let goes : Fits m valid sizes f a.at (Reading p c.in-Reading.ticket) a.log.table.words.items a.log.table.base.items a.log.table.set.updates rs v × IsAsOf a.at a.log.table.extension =
     subst (λ (s : ReadPhase). Goes m valid sizes f a.at s a.log.table.words.items a.log.table.extension a.log.table.base.items a.log.table.set.items a.log.table.set.updates rs v) c.in-Reading.is c.requires.1.goes in
     let wide : FitsWord w32 c.width.result = search rules in
-    omega (arith, wide, width_got m.widths p c.width.result c.width.ensures, c.len.ensures, goes.0.stands.2)
+    omega (arith, wide, width_got m.widths p c.width.result c.width.ensures, c.words_read.ensures, goes.0.stands.2)
 
 pub width-requires-in-Rereading : goal.width-requires-in-Rereading
 width-requires-in-Rereading g c =
@@ -109,12 +109,12 @@ overflow_sub-result-in-Rereading g c =
     let p = c.in-Rereading.part in
     let goes : Renews m valid sizes (f rs) a.at (Rereading p c.in-Rereading.ticket) a.log.table.words.items a.log.table.extension a.log.table.base.items a.log.table.set.items v =
     subst (λ (s : ReadPhase). Goes m valid sizes f a.at s a.log.table.words.items a.log.table.extension a.log.table.base.items a.log.table.set.items a.log.table.set.updates rs v) c.in-Rereading.is c.requires.1.goes in
-    omega (arith, width_got m.widths p c.width-in-Rereading.result c.width-in-Rereading.ensures, c.len-in-Rereading.ensures, goes.stands.2)
+    omega (arith, width_got m.widths p c.width-in-Rereading.result c.width-in-Rereading.ensures, c.words_read-in-Rereading.ensures, goes.stands.2)
 
 pub returns-in-Rereading-clause-left : goal.returns-in-Rereading-clause-left
 returns-in-Rereading-clause-left g c =
     let m = g.T.TxType.meaning c.args.self.now.log.ty.now in
-    rw c.in-Rereading.is (omega (arith, width_got m.widths c.in-Rereading.part c.width-in-Rereading.result c.width-in-Rereading.ensures, c.len-in-Rereading.ensures))
+    rw c.in-Rereading.is (omega (arith, width_got m.widths c.in-Rereading.part c.width-in-Rereading.result c.width-in-Rereading.ensures, c.words_read-in-Rereading.ensures))
 
 pub returns-in-Rereading-clause-few : goal.returns-in-Rereading-clause-few
 returns-in-Rereading-clause-few g c some =
@@ -130,4 +130,4 @@ returns-in-Rereading-clause-few g c some =
     let goes : Renews m valid sizes (f rs) a.at (Rereading p c.in-Rereading.ticket) a.log.table.words.items a.log.table.extension a.log.table.base.items a.log.table.set.items v =
     subst (λ (s : ReadPhase). Goes m valid sizes f a.at s a.log.table.words.items a.log.table.extension a.log.table.base.items a.log.table.set.items a.log.table.set.updates rs v) c.in-Rereading.is c.requires.1.goes in
     let wide : FitsWord w32 c.width-in-Rereading.result = search rules in
-    omega (arith, wide, width_got m.widths p c.width-in-Rereading.result c.width-in-Rereading.ensures, c.len-in-Rereading.ensures, goes.stands.2)
+    omega (arith, wide, width_got m.widths p c.width-in-Rereading.result c.width-in-Rereading.ensures, c.words_read-in-Rereading.ensures, goes.stands.2)

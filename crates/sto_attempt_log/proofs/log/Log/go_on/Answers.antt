@@ -1,184 +1,22 @@
-use Rattle.std.proofs.Common.{refl, arith, ap, sym, ◌∙◌, [], map, append-nil, rules}
-use Rattle.sto_model.specs.PlainReplies.{plain_reply}
-use Rattle.sto_type.specs.Known.{known}
-use Rattle.sto_attempt_log.specs.ReadSet.{words_in}
-use Rattle.sto_attempt_log.proofs.Onward.{heard_none, need_touched}
-use Rattle.sto_attempt_log.specs.Doing.{Reader}
-use Rattle.sto_attempt_log.specs.Tables.{with_table, run_to}
-use Rattle.sto_attempt_log.specs.declared.log.Log.{Log}
-use Rattle.sto_attempt_log.proofs.Onward.{pending_of}
-use Rattle.sto_attempt_log.proofs.ReadRuns.{ran_none, ran_halts}
+-- It is run on the table that the box holds.
+use Rattle.std.proofs.Common.{subst, sym}
+use Rattle.sto_type.specs.Traits.{of_type}
+use Rattle.sto_attempt_log.specs.declared.table.Table.{Table}
+use Rattle.sto_attempt_log.specs.Tables.{log_of}
+use Rattle.sto_attempt_log.specs.Going.{CanBe, IsInOrder, HasRunOn}
 use Rattle.sto_attempt_log.proofs.log.Log.go_on.Goals as goal
 
-pub take_in-requires-clause-log : goal.take_in-requires-clause-log
-take_in-requires-clause-log g c =
-    let i = c.loop-call.invariant in
-    rw i.script (record { then = i.log.then; taken = i.log.taken; few = i.log.few; log = i.log.log; known_above = c.in_ok-part-in-Ask.ensures.cache })
+pub run_on-requires-clause-some : goal.run_on-requires-clause-some
+run_on-requires-clause-some g c =
+    let on = log_of c.args.self.now.ty c.args.self.now.body in
+    subst (λ (t : Table). CanBe (of_type g.T.Naming g.T.TxType) g.B.Body (on t)) (sym c.deref_mut-table.ensures.value) c.requires.some
 
-pub take_in-requires-clause-says : goal.take_in-requires-clause-says
-take_in-requires-clause-says g c =
-    let f = g.B.Body.script c.args.self.now.body in
-    let was = c.loop-call.invariant.log in
-    let rs = map plain_reply c.loop-call.self.table.replies.items in
-    let asks = ap f (sym (append-nil rs)) ∙ sym (c.in-Ask.ensures.next ∙ was.then []) in
-    record {
-      call = c.in-Ask.call;
-      taken = was.taken c.in-Ask.call c.in-Ask.ensures.may;
-      asks = rw c.loop-call.invariant.script asks;
-      plan = rw c.in-None.is at c.in_ok-part-in-Ask.ensures.plan;
-    }
+pub run_on-requires-clause-log : goal.run_on-requires-clause-log
+run_on-requires-clause-log g c =
+    let on = log_of c.args.self.now.ty c.args.self.now.body in
+    subst (λ (t : Table). IsInOrder (of_type g.T.Naming g.T.TxType) g.B.Body (on t) (on t)) (sym c.deref_mut-table.ensures.value) c.requires.log
 
-pub loop-call-preserved : goal.loop-call-preserved
-loop-call-preserved g c =
-    let i = c.loop-call.invariant in
-    let e = c.take_in.ensures in
-    let k = c.in_ok-take_in-in-None.ensures in
-    record {
-      log = rw (e.ty, e.base, ← i.script) k.log;
-      some = rw (e.ty, e.base) i.some;
-      grown = rw (e.ty, e.base, ← i.script) (k.grown (map plain_reply c.args.self.now.table.replies.items) c.args.self.now.table.set (rw i.script i.grown));
-      ran = rw (e.ty, e.base, ← i.script) (λ r base set heard. k.ran r base (rw i.script (i.ran r base set heard)));
-      left = omega (arith, i.left, e.left);
-      script = e.script ∙ i.script;
-      left_at_reset = e.left_at_reset ∙ i.left_at_reset;
-      may = λ call h. i.may call (e.may call h);
-      ty = e.ty ∙ i.ty;
-      base = e.base ∙ i.base;
-      rest = e.rest ∙ ap (λ (x : Log g.row.T.Denot g.row.B.Denot). run_to x c.take_in.new.self) i.rest;
-    }
-
-pub loop-call-init : goal.loop-call-init
-loop-call-init g c = record {
-  log = c.requires.log;
-  some = c.requires.some;
-  grown = heard_none (g.T.TxType.meaning c.args.self.now.ty.now) (g.B.Body.script c.args.self.now.body) (words_in c.args.self.now.table.base.items) (map plain_reply c.args.self.now.table.replies.items) c.args.self.now.table.set;
-  ran = λ r base set heard. ran_none (g.T.TxType.meaning c.args.self.now.ty.now) (g.B.Body.script c.args.self.now.body) r c.args.self.now.table.set (map plain_reply c.args.self.now.table.replies.items) set heard;
-  left = omega arith;
-  script = refl;
-  left_at_reset = refl;
-  may = λ call h. h;
-  ty = refl;
-  base = refl;
-  rest = refl;
-}
-
-pub returns-in-Some : goal.returns-in-Some
-returns-in-Some g c =
-    let m = g.T.TxType.meaning c.args.self.now.ty.now in
-    let f = g.B.Body.script c.args.self.now.body in
-    let i = c.loop-call.invariant in
-    let l = c.loop-call.self in
-    let rs = map plain_reply l.table.replies.items in
-    let asks = ap f (sym (append-nil rs)) ∙ sym (c.in-Ask.ensures.next ∙ i.log.then []) in
-    let unknown = rw c.in-Some.is at c.in_ok-part-in-Ask.ensures.need in
-    let unread = unknown.0 in
-    let unput = unknown.1 in
-    record {
-      log = search rules;
-      reached = record {
-        unread = search rules;
-        unput = search rules;
-        by_next =
-            rw (← i.ty) (need_touched (g.T.TxType.meaning l.ty.now) f (words_in l.table.base.items) l.table.set.items l.table.set.updates rs c.in-Ask.call (known c.ask.new.cache) c.in-Some.part
-            i.log.log c.in_ok-part-in-Ask.ensures.cache i.some (i.log.taken c.in-Ask.call c.in-Ask.ensures.may) asks (rw c.in-Some.is at c.in_ok-part-in-Ask.ensures.plan));
-      };
-      grown = search rules;
-      runs = search rules;
-      comes = rw (← i.ty, ← i.base) (λ r at.
-          let ran = i.ran r at.0 at.1 at.2 in (
-            ran,
-            ran_halts (g.T.TxType.meaning l.ty.now) (g.met.T.TxType.lawful l.ty.now) f r l.table.base.items l.table.set rs at.0 ran
-                (pending_of (g.T.TxType.meaning l.ty.now) f (words_in l.table.base.items) l.table.set.items l.table.set.updates rs i.log.log i.some) (known c.ask.new.cache) c.in_ok-part-in-Ask.ensures.cache c.in-Ask.call asks
-                c.in-Some.part (rw c.in-Some.is at c.in_ok-part-in-Ask.ensures.plan) unread unput,
-          ));
-      left = search rules;
-      asks = search rules;
-      script = search rules;
-      left_at_reset = search rules;
-      may = search rules;
-      ty = search rules;
-      base = search rules;
-      rest = ap (λ (x : Log g.row.T.Denot g.row.B.Denot). with_table x (record x.table { scratch = c.ask.new.scratch; cache = c.ask.new.cache; said = c.ask.new.said })) i.rest;
-    }
-
-pub returns-in-Commit : goal.returns-in-Commit
-returns-in-Commit g c =
-    let f = g.B.Body.script c.args.self.now.body in
-    let i = c.loop-call.invariant in
-    let rs = map plain_reply c.loop-call.self.table.replies.items in
-    let ends = ap f (sym (append-nil rs)) ∙ sym (c.in-Commit.ensures.next ∙ i.log.then []) in
-    record {
-      log = search rules;
-      reached = search rules;
-      grown = search rules;
-      runs = search rules;
-      comes = rw (← i.ty, ← i.base) (λ r at. let ran = i.ran r at.0 at.1 at.2 in (ran, ap f (ap (λ (x : Reader). x.heard) ran.kept) ∙ ends));
-      left = search rules;
-      asks = search rules;
-      script = search rules;
-      left_at_reset = search rules;
-      may = search rules;
-      ty = search rules;
-      base = search rules;
-      rest = i.rest;
-    }
-
-pub returns-in-Cancel : goal.returns-in-Cancel
-returns-in-Cancel g c =
-    let f = g.B.Body.script c.args.self.now.body in
-    let i = c.loop-call.invariant in
-    let rs = map plain_reply c.loop-call.self.table.replies.items in
-    let ends = ap f (sym (append-nil rs)) ∙ sym (c.in-Cancel.ensures.next ∙ i.log.then []) in
-    record {
-      log = search rules;
-      reached = search rules;
-      grown = search rules;
-      runs = search rules;
-      comes = rw (← i.ty, ← i.base) (λ r at. let ran = i.ran r at.0 at.1 at.2 in (ran, ap f (ap (λ (x : Reader). x.heard) ran.kept) ∙ ends));
-      left = search rules;
-      asks = search rules;
-      script = search rules;
-      left_at_reset = search rules;
-      may = search rules;
-      ty = search rules;
-      base = search rules;
-      rest = i.rest;
-    }
-
-pub returns-in_err-part-in-Ask : goal.returns-in_err-part-in-Ask
-returns-in_err-part-in-Ask g c =
-    let i = c.loop-call.invariant in
-    record {
-      log = search rules;
-      reached = search rules;
-      grown = search rules;
-      runs = search rules;
-      comes = search rules;
-      left = search rules;
-      asks = search rules;
-      script = search rules;
-      left_at_reset = search rules;
-      may = search rules;
-      ty = search rules;
-      base = search rules;
-      rest = ap (λ (x : Log g.row.T.Denot g.row.B.Denot). with_table x (record x.table { scratch = c.ask.new.scratch; cache = c.ask.new.cache; said = c.ask.new.said })) i.rest;
-    }
-
-pub returns-in_err-take_in-in-None : goal.returns-in_err-take_in-in-None
-returns-in_err-take_in-in-None g c =
-    let i = c.loop-call.invariant in
-    record {
-      log = search rules;
-      reached = search rules;
-      grown = search rules;
-      runs = search rules;
-      comes = search rules;
-      left = search rules;
-      asks = search rules;
-      script = search rules;
-      left_at_reset = search rules;
-      may = search rules;
-      ty = search rules;
-      base = search rules;
-      rest = c.take_in.ensures.rest ∙ ap (λ (x : Log g.row.T.Denot g.row.B.Denot). run_to x c.take_in.new.self) i.rest;
-    }
+pub returns : goal.returns
+returns g c =
+    let on = log_of c.args.self.now.ty c.args.self.now.body in
+    subst (λ (t : Table). HasRunOn (of_type g.T.Naming g.T.TxType) g.B.Body (on t) (log_of c.args.self.now.ty c.run_on.new.body c.run_on.new.table) c.run_on.result) c.deref_mut-table.ensures.value c.run_on.ensures

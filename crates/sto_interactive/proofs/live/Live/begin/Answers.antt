@@ -10,8 +10,12 @@ use Rattle.sto_attempt_log.proofs.Reading.{always_err}
 use Rattle.sto_transaction.specs.Machines.{HasStopped, IsOwnLog}
 use Rattle.sto_interactive.specs.Scripts.{script_of}
 use Rattle.sto_interactive.specs.Bodies.{next_of, script_in, left_of, MayAskOf}
-use Rattle.sto_interactive.proofs.Beginning.{start_stops, start_waits, start_silent}
+use Rattle.sto_interactive.proofs.Beginning.{start_stops, start_waits, start_silent, start_alone}
 use Rattle.sto_interactive.proofs.live.Live.begin.Goals as goal
+
+pub returns-in-Err-clause-err : goal.returns-in-Err-clause-err
+returns-in-Err-clause-err g c =
+    start_alone (of_type g.T.Naming g.T.TxType) (g.C.Cells.passes c.args.cells.now) c.args.ty.now (g.C.Cells.view c.args.cells.now) (g.C.Cells.view c.start.new.self) c.start.result c.requires.rests c.requires.draws c.start.ensures.tells
 
 pub returns-in_err-begin-clause-err : goal.returns-in_err-begin-clause-err
 returns-in_err-begin-clause-err g c =

@@ -47,6 +47,27 @@ returns-in-Err-clause-err g c =
     let few : made ≤ self.tries = omega (arith, c.loop-aborted-test.true) in
     subst (λ (rs : List Told). HasBroken m sizes self.tries v u f place before rs) (sym kept) (broken_before m sizes self.tries passes made v u f place before mid h.retried few)
 
+pub returns-in_err-table-clause-err : goal.returns-in_err-table-clause-err
+returns-in_err-table-clause-err g c =
+    let self = c.args.self in
+    let m = g.T.TxType.meaning self.ty.now in
+    let sizes = g.T.Naming.sizes self.ty.now in
+    let first = c.args.cells.now in
+    let passes = g.C.Cells.passes first in
+    let v = g.C.Cells.view first in
+    let f = g.B.Body.script self.body in
+    let place : TransactionPlace = (self.thread, self.position) in
+    let before = map plain c.args.records.now.items in
+    let here = c.loop-aborted.cells in
+    let u = g.C.Cells.view here in
+    let made = c.loop-aborted.aborted in
+    let mid = map plain c.loop-aborted.records.items in
+    let h = c.loop-aborted.invariant in
+    let kept : map plain c.reserve.new.self.items ≡ mid = ap (map plain) c.reserve.ensures.items in
+    let few : made ≤ self.tries = omega (arith, c.loop-aborted-test.true) in
+    always_err c.from_residual.result (HasBroken m sizes self.tries v u f place before (map plain c.reserve.new.self.items))
+    (subst (λ (rs : List Told). HasBroken m sizes self.tries v u f place before rs) (sym kept) (broken_before m sizes self.tries passes made v u f place before mid h.retried few))
+
 pub returns-in_err-attempt-clause-err : goal.returns-in_err-attempt-clause-err
 returns-in_err-attempt-clause-err g c =
     let self = c.args.self in
@@ -65,7 +86,7 @@ returns-in_err-attempt-clause-err g c =
     let h = c.loop-aborted.invariant in
     let kept : map plain c.reserve.new.self.items ≡ mid = ap (map plain) c.reserve.ensures.items in
     let w = g.C.Cells.view c.run_attempt.new.cells in
-    always_err c.from_residual.result (HasBroken m sizes self.tries v w f place before (map plain c.reserve.new.self.items))
+    always_err c.from_residual-in_err-attempt.result (HasBroken m sizes self.tries v w f place before (map plain c.reserve.new.self.items))
     (subst (λ (rs : List Told). HasBroken m sizes self.tries v w f place before rs) (sym kept)
     (has_broken m sizes self.tries passes made v u w f place before mid h.retried c.in_err-attempt.ensures.err c.loop-aborted-test.true))
 
@@ -156,6 +177,9 @@ returns-clause-ran g c =
 
 pub returns-in-Err-clause-steps : goal.returns-in-Err-clause-steps
 returns-in-Err-clause-steps g c = c.loop-aborted.invariant.pace
+
+pub returns-in_err-table-clause-steps : goal.returns-in_err-table-clause-steps
+returns-in_err-table-clause-steps g c = c.loop-aborted.invariant.pace
 
 pub returns-in_err-attempt-clause-steps : goal.returns-in_err-attempt-clause-steps
 returns-in_err-attempt-clause-steps g c =
