@@ -1,3 +1,5 @@
+pub mod Noted
+pub mod Looked
 pub mod Passing
 pub mod Keeping
 pub mod LastReply
