@@ -41,7 +41,7 @@ use Rattle.sto_history.proofs.Progress.{keeps_running}
 use Rattle.sto_history.proofs.Ended.{undrawn_keeps}
 use Rattle.sto_transaction.specs.Going.{InBody}
 use Rattle.sto_interactive.specs.declared.noting.ReadPart.{ReadPart}
-use Rattle.sto_interactive.specs.declared.noting.ReadNotes.{ReadNotes}
+use Rattle.sto_interactive.specs.declared.noting.ReadBook.{ReadBook}
 use Rattle.sto_interactive.specs.declared.looking.Look.TheVariants.{Unchanged, Locked, Changed}
 use Rattle.sto_interactive.specs.declared.pause.RestingTransaction.{RestingTransaction}
 use Rattle.sto_interactive.specs.Noting.{HasRead, AreAll}
@@ -57,7 +57,7 @@ never_start : (p : ℕ) → Recheck p ≡ Start → ⊥
 never_start p e = cc
 
 -- A part that was read and is noted
-module _ (valid : Validity) (notes : ReadNotes) (v : View) (all : AreAll notes v) (reading : v.phase ≡ P.Reading) (r : ReadPart) (there : Contains notes.reads.items r) where
+module _ (valid : Validity) (notes : ReadBook) (v : View) (all : AreAll notes v) (reading : v.phase ≡ P.Reading) (r : ReadPart) (there : Contains notes.reads.items r) where
   read : HasRead v r.part r.ticket
   read = (all.reads r there).0
 
@@ -182,7 +182,7 @@ module _ (valid : Validity) (notes : ReadNotes) (v : View) (all : AreAll notes v
     }
 
 -- The same of a transaction on a type
-module _ {T : Type 0} (t : OfType T) (notes : ReadNotes) (v : View) (all : AreAll notes v) (reading : v.phase ≡ P.Reading) (r : ReadPart) (there : Contains notes.reads.items r)
+module _ {T : Type 0} (t : OfType T) (notes : ReadBook) (v : View) (all : AreAll notes v) (reading : v.phase ≡ P.Reading) (r : ReadPart) (there : Contains notes.reads.items r)
     (passes n : ℕ) (x : ℤ) (w : View) (told : Tells t.valid passes (Recheck r.part) v n x w) where
   pub waits_on : {B : Type 0} (b : OfBody B) (ty : T) (f : Behaviour) (a : Attempt T B) (begun : View) → IsWaiting t b ty f a begun v → IsWaiting t b ty f a begun w
   waits_on b ty f a begun h = record {
@@ -225,7 +225,7 @@ as_read_more valid passes x [] part v u w version h told is = (w, version, subst
 as_read_more valid passes x (p ∷ ps) part v u w version h told is = (h.0, h.1, h.2, h.3, as_read_more valid passes x ps part h.0 u w version h.4 told is)
 
 -- The looks that have led from the view x to the view u; the parts of these reads are left
-module _ {T : Type 0} (t : OfType T) (passes : ℕ) (notes : ReadNotes) (x : View) where
+module _ {T : Type 0} (t : OfType T) (passes : ℕ) (notes : ReadBook) (x : View) where
   pub record HasGone (left : List ReadPart) (u : View) : Type 0 where
     pub first : AreAll notes x
     pub done : List ReadPart

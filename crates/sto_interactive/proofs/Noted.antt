@@ -21,14 +21,14 @@ use Rattle.sto_core.proofs.Lists.{each_snoc, among_snoc, both_true, both_are}
 use Rattle.sto_attempt_log.proofs.Drawing.{any_at}
 use Rattle.sto_attempt_log.proofs.Reading.{among_front, even_same}
 use Rattle.sto_interactive.specs.declared.noting.ReadPart.{ReadPart}
-use Rattle.sto_interactive.specs.declared.noting.ReadNotes.{ReadNotes}
-use Rattle.sto_interactive.specs.Noting.{WasRead, HasRead, IsOpened, AreAll, AreNoted, HasStarted, HasAdded, HasRenewed}
+use Rattle.sto_interactive.specs.declared.noting.ReadBook.{ReadBook}
+use Rattle.sto_interactive.specs.Noting.{WasRead, HasRead, IsOpened, AreAll, AreNoted, HasStarted, HasAdded, HasRenewed, HasOpened}
 
 abbrev pub read_as : ℕ → ℕ → ReadPart
 read_as part ticket = record { part = part; ticket = ticket }
 
 -- notes that are not complete say nothing
-pub forgotten : (notes : ReadNotes) (v : View) → notes.complete ≡ false → AreNoted notes v
+pub forgotten : (notes : ReadBook) (v : View) → notes.complete ≡ false → AreNoted notes v
 forgotten notes v not is = absurd (true≢false (sym is ∙ not))
 
 none_in : (l : List ReadPart) (r : ReadPart) → l ≡ [] → Contains l r → ⊥
@@ -42,14 +42,14 @@ pub has_read_on : (v w : View) (part ticket : ℕ) → w.starts ≡ v.starts →
 has_read_on v w part ticket starts number keeps h =
     (h.0, keeps h.0 h.1, record { start = h.2.start ∙ sym starts; on = h.2.on; ticket_is = h.2.ticket_is }, h.3 ∙ sym number)
 
-abbrev IsNotedIn : ReadNotes → View → Claim → Type 0
+abbrev IsNotedIn : ReadBook → View → Claim → Type 0
 IsNotedIn notes v c = c.start ≡ v.starts → c.number ≡ v.at → Contains notes.reads.items (record { part = c.part; ticket = c.ticket })
 
 abbrev IsBelow : View → Claim → Type 0
 IsBelow v c = c.start ≡ v.starts → (c.number ≤ v.at) × (c.ticket ≤ v.at)
 
 -- Notes and a view, and the notes and the view after an event that keeps the start, the number and the contents of the opening
-module _ (old new : ReadNotes) (v w : View) (all : AreAll old v) (at : new.at ≡ old.at) (older : new.older.items ≡ old.older.items)
+module _ (old new : ReadBook) (v w : View) (all : AreAll old v) (at : new.at ≡ old.at) (older : new.older.items ≡ old.older.items)
     (starts : w.starts ≡ v.starts) (number : w.at ≡ v.at) (opening : w.opening ≡ v.opening) (opened : IsOpened new.opened w.at w.phase) where
   part_on : (p : ℕ) → HasPart v p → HasPart w p
   part_on p h = subst (λ (l : List (List ℤ)). p < length l) (sym opening) h
@@ -97,14 +97,14 @@ module _ (old new : ReadNotes) (v w : View) (all : AreAll old v) (at : new.at �
 
 module _ (valid : Validity) (passes n : ℕ) (x : ℤ) (v w : View) where
   -- an attempt begins
-  pub start_noted : (new : ReadNotes) → HasStarted n new → Tells valid passes Start v n x w → AreNoted new w
+  pub start_noted : (new : ReadBook) → HasStarted n new → Tells valid passes Start v n x w → AreNoted new w
   start_noted new h t complete =
       let number : w.at ≡ n = ap (λ (y : View). y.at) t.after in
       record {
-        at = h.at_is ∙ sym number;
-        reads = λ r there. absurd (none_in new.reads.items r h.reads there);
+        at = (h complete).at_is ∙ sym number;
+        reads = λ r there. absurd (none_in new.reads.items r (h complete).reads there);
         all = λ j c there start now. absurd (omega (arith, t.learns.1.claims j c there, start));
-        older = λ r there. absurd (none_in new.older.items r h.older there);
+        older = λ r there. absurd (none_in new.older.items r (h complete).older there);
         below = λ j c there start. absurd (omega (arith, t.learns.1.claims j c there, start));
         opened = subst (IsOpened new.opened w.at) (sym (ap (λ (y : View). y.phase) t.after)) tt;
       }
@@ -114,16 +114,18 @@ module _ (valid : Validity) (passes n : ℕ) (x : ℤ) (v w : View) where
   opened_by true p at h = (refl, h refl)
   opened_by false p at h = tt
 
-  pub open_noted : (p : ℕ) (old : ReadNotes) → AreNoted old v → Tells valid passes (Open p) v n x w → AreNoted (record old { opened = ticket_of n }) w
-  open_noted p old noted t complete =
+  pub open_noted : (p : ℕ) (old new : ReadBook) → AreNoted old v → Tells valid passes (Open p) v n x w → HasOpened (ticket_of n) old new → AreNoted new w
+  open_noted p old new noted t h complete =
+      let same : new ≡ record old { opened = ticket_of n } = h complete in
       let there : View = record (found v p n) { phase = opened v p n } in
       let is : IsOpened (ticket_of n) v.at there.phase =
       opened_by (is_free n && nat_le (ticket_of n) v.at) p v.at (λ e. leb-true (ticket_of n) v.at (both_are (is_free n) (nat_le (ticket_of n) v.at) e).1) in
-      subst (AreAll (record old { opened = ticket_of n })) (sym t.after)
-      (same_claims old (record old { opened = ticket_of n }) v there (noted complete) refl refl refl refl refl is refl refl)
+      subst (λ (b : ReadBook). AreAll b w) (sym same)
+      (subst (AreAll (record old { opened = ticket_of n })) (sym t.after)
+      (same_claims old (record old { opened = ticket_of n }) v there (noted (ap (λ (b : ReadBook). b.complete) (sym same) ∙ complete)) refl refl refl refl refl is refl refl))
 
   -- a word is read
-  word_by : (phase : Phase) (p i : ℕ) (notes : ReadNotes) → AreAll notes v → IsOpened notes.opened v.at phase → AreAll notes (read_by phase v p i x)
+  word_by : (phase : Phase) (p i : ℕ) (notes : ReadBook) → AreAll notes v → IsOpened notes.opened v.at phase → AreAll notes (read_by phase v p i x)
   word_by Idle p i notes all is = same_claims notes notes v (read_by Idle v p i x) all refl refl refl refl refl all.opened refl refl
   word_by Reading p i notes all is = same_claims notes notes v (read_by Reading v p i x) all refl refl refl refl refl all.opened refl refl
   word_by (Looking r) p i notes all is = same_claims notes notes v (read_by (Looking r) v p i x) all refl refl refl refl refl is refl refl
@@ -133,11 +135,11 @@ module _ (valid : Validity) (passes n : ℕ) (x : ℤ) (v w : View) where
   word_by (Won k puts) p i notes all is = same_claims notes notes v (read_by (Won k puts) v p i x) all refl refl refl refl refl all.opened refl refl
   word_by (Lost k) p i notes all is = same_claims notes notes v (read_by (Lost k) v p i x) all refl refl refl refl refl all.opened refl refl
 
-  pub word_noted : (p i : ℕ) (notes : ReadNotes) → AreNoted notes v → Tells valid passes (Word p i) v n x w → AreNoted notes w
+  pub word_noted : (p i : ℕ) (notes : ReadBook) → AreNoted notes v → Tells valid passes (Word p i) v n x w → AreNoted notes w
   word_noted p i notes noted t complete = subst (AreAll notes) (sym t.after) (word_by v.phase p i notes (noted complete) (noted complete).opened)
 
   -- a read ends with the version of its beginning
-  close_by : (phase : Phase) (p : ℕ) (old new : ReadNotes) → AreAll old v → IsOpened old.opened v.at phase → MayClose v p phase → HasPart v p → is_free n ≡ true → ticket_of n ≡ old.opened
+  close_by : (phase : Phase) (p : ℕ) (old new : ReadBook) → AreAll old v → IsOpened old.opened v.at phase → MayClose v p phase → HasPart v p → is_free n ≡ true → ticket_of n ≡ old.opened
       → HasAdded p old.opened old new → new.complete ≡ true → AreAll new (closed_by phase (found v p n) n)
   close_by (Looking r) p old new all is may part free same h complete =
       let one : Claim = record { start = v.starts; number = v.at; part = r.part; ticket = r.ticket; words = words_read r.reads (width_in v r.part) } in
@@ -157,13 +159,13 @@ module _ (valid : Validity) (passes n : ℕ) (x : ℤ) (v w : View) where
   close_by (Testing r) p old new all is may part free same h complete = absurd is
   close_by _ p old new all is may part free same h complete = absurd may
 
-  pub close_noted : (p : ℕ) (old new : ReadNotes) → AreNoted old v → Tells valid passes (Close p) v n x w → is_free n ≡ true → ticket_of n ≡ old.opened → HasAdded p old.opened old new → AreNoted new w
+  pub close_noted : (p : ℕ) (old new : ReadBook) → AreNoted old v → Tells valid passes (Close p) v n x w → is_free n ≡ true → ticket_of n ≡ old.opened → HasAdded p old.opened old new → AreNoted new w
   close_noted p old new noted t free same h complete =
       let all = noted (h.complete complete) in
       subst (AreAll new) (sym t.after) (close_by v.phase p old new all all.opened t.allowed.0 t.allowed.1 free same h complete)
 
   -- it ends with another
-  other_by : (phase : Phase) (p : ℕ) (notes : ReadNotes) → AreAll notes v → IsOpened notes.opened v.at phase → MayClose v p phase → (is_free n ≡ true → ticket_of n ≡ notes.opened → ⊥)
+  other_by : (phase : Phase) (p : ℕ) (notes : ReadBook) → AreAll notes v → IsOpened notes.opened v.at phase → MayClose v p phase → (is_free n ≡ true → ticket_of n ≡ notes.opened → ⊥)
       → AreAll notes (closed_by phase (found v p n) n)
   other_by (Looking r) p notes all is may differs =
       let one : Claim = record { start = v.starts; number = v.at; part = r.part; ticket = r.ticket; words = words_read r.reads (width_in v r.part) } in
@@ -177,13 +179,13 @@ module _ (valid : Validity) (passes n : ℕ) (x : ℤ) (v w : View) where
   other_by (Testing r) p notes all is may differs = absurd is
   other_by _ p notes all is may differs = absurd may
 
-  pub other_noted : (p : ℕ) (notes : ReadNotes) → AreNoted notes v → Tells valid passes (Close p) v n x w → (is_free n ≡ true → ticket_of n ≡ notes.opened → ⊥) → AreNoted notes w
+  pub other_noted : (p : ℕ) (notes : ReadBook) → AreNoted notes v → Tells valid passes (Close p) v n x w → (is_free n ≡ true → ticket_of n ≡ notes.opened → ⊥) → AreNoted notes w
   other_noted p notes noted t differs complete =
       let all = noted complete in
       subst (AreAll notes) (sym t.after) (other_by v.phase p notes all all.opened t.allowed.0 differs)
 
   -- the attempt reads on as of a later number
-  pub renew_noted : (old new : ReadNotes) → AreNoted old v → Tells valid passes Renew v n x w → HasRenewed n old new → AreNoted new w
+  pub renew_noted : (old new : ReadBook) → AreNoted old v → Tells valid passes Renew v n x w → HasRenewed n old new → AreNoted new w
   renew_noted old new noted t h complete =
       let later = h complete in
       let all = noted later.complete in
@@ -200,7 +202,7 @@ module _ (valid : Validity) (passes n : ℕ) (x : ℤ) (v w : View) where
       subst (AreAll new) (sym t.after) here
 
   -- a part that was read as of the number before is read as of this one too
-  pub recheck_noted : (p : ℕ) (old new : ReadNotes) → AreNoted old v → Tells valid passes (Recheck p) v n x w → is_free n ≡ true → Contains old.older.items (read_as p (ticket_of n)) → HasAdded p (ticket_of n) old new
+  pub recheck_noted : (p : ℕ) (old new : ReadBook) → AreNoted old v → Tells valid passes (Recheck p) v n x w → is_free n ≡ true → Contains old.older.items (read_as p (ticket_of n)) → HasAdded p (ticket_of n) old new
       → AreNoted new w
   recheck_noted p old new noted t free inside h complete =
       let all = noted (h.complete complete) in

@@ -31,7 +31,7 @@ use Rattle.sto_interactive.specs.Bodies.{next_of, script_in, left_of, MayAskOf}
 use Rattle.sto_transaction.specs.Resting.{IsAtRest}
 use Rattle.sto_interactive.specs.declared.asked_calls.AskedCalls.{AskedCalls}
 use Rattle.sto_interactive.specs.declared.live.Live.{Live}
-use Rattle.sto_interactive.specs.declared.noting.ReadNotes.{ReadNotes}
+use Rattle.sto_interactive.specs.declared.noting.ReadBook.{ReadBook}
 use Rattle.sto_interactive.specs.declared.live.StepError.{StepError}
 use Rattle.sto_interactive.specs.declared.pause.RestingTransaction.{RestingTransaction}
 use Rattle.sto_interactive.specs.Lives as lives
@@ -64,11 +64,11 @@ pub stopped : {T : Type 0} (t : OfType T) (k : ℕ) (ty : T) (calls : List Call)
 stopped t k ty calls rs call old new begun v w e x same h = subst (λ (y : StepError). lives.HasAsked t k ty calls rs call (Err y) old new begun v w) same h
 
 -- the notes of a transaction are those of the pass that it goes on on
-pub noted_there : (p : RestingTransaction) (notes : ReadNotes) (a b : Pass) → notes ≡ p.notes → b ≡ a → AreNoted p.notes a.me.0.view → AreNoted notes b.me.0.view
-noted_there p notes a b same seat h = subst (λ (e : Pass). AreNoted notes e.me.0.view) (sym seat) (subst (λ (k : ReadNotes). AreNoted k a.me.0.view) (sym same) h)
+pub noted_there : (p : RestingTransaction) (notes : ReadBook) (a b : Pass) → notes ≡ p.notes → b ≡ a → AreNoted p.notes a.me.0.view → AreNoted notes b.me.0.view
+noted_there p notes a b same seat h = subst (λ (e : Pass). AreNoted notes e.me.0.view) (sym seat) (subst (λ (k : ReadBook). AreNoted k a.me.0.view) (sym same) h)
 
-pub notes_are : (p : RestingTransaction) (notes : ReadNotes) (v : View) → p.notes ≡ notes → AreNoted notes v → AreNoted p.notes v
-notes_are p notes v same h = subst (λ (k : ReadNotes). AreNoted k v) (sym same) h
+pub notes_are : (p : RestingTransaction) (notes : ReadBook) (v : View) → p.notes ≡ notes → AreNoted notes v → AreNoted p.notes v
+notes_are p notes v same h = subst (λ (k : ReadBook). AreNoted k v) (sym same) h
 
 module _ {T : Type 0} (s : Shared T) where
   -- it is a pass of the same words

@@ -82,7 +82,7 @@ fn look_again<T: TxType>(
     ensures looked { IfOk result.1 (λ look. HasLooked T.valid (passes_of shared.now) rest.seat.me.0.view look result.0.rest.seat.me.0.view) }
     ensures kept { OnErr result.1 ((result.1 ≡ Err NoMemory) × (result.0.rest ≡ rest)) }
 {
-    if !live.notes.complete {
+    if !live.notes.is_complete() {
         return (waiting(rest, left, live, room), Err(LookError::NoMemory));
     }
     let mut pass = shared.pass(rest);
@@ -101,7 +101,7 @@ fn look_at<T: TxType, C: Cells<T>>(cells: &mut C, notes: &ReadNotes) -> Look
         → IsPaused T.TxType ty calls rs p begun (C.view cells.old) → IsPaused T.TxType ty calls rs p begun (C.view cells.new) }
     ensures same { C.same cells.old cells.new }
 {
-    for read in notes.reads.as_slice() {
+    for read in notes.reads() {
         let found = cells.recheck(read.part);
         if found.is_locked() {
             return Look::Locked { part: read.part };

@@ -38,7 +38,7 @@ impl StepLists {
         StepLists {
             attempts: AttemptLists::new(alloc),
             calls: List::new(alloc),
-            notes: ReadNotes::new(alloc),
+            notes: ReadNotes::none(),
         }
     }
 
@@ -54,10 +54,8 @@ impl StepLists {
     pub(crate) fn take_notes(&mut self) -> ReadNotes
         ensures { result.complete ≡ false }
     {
-        let empty = ReadNotes::new(self.calls.allocator());
-        let mut notes = mem::replace(&mut self.notes, empty);
-        notes.forget();
-        notes
+        let alloc = self.calls.allocator();
+        mem::replace(&mut self.notes, ReadNotes::none()).emptied(alloc)
     }
 
     /// Keeps the room of the notes of a transaction that has ended.

@@ -1,9 +1,10 @@
 //! Passes on which it is noted what their transaction reads.
 ghost use Rattle.std.specs.Prelude.{◌≡◌, ◌<◌, true, false, IsTrue};
 ghost use Rattle.std.specs.List.{Contains};
-ghost use Rattle.sto_interactive.specs.Noting.{AreNoted, HasStarted, HasAdded, HasRenewed};
+ghost use Rattle.sto_interactive.specs.Noting.{AreNoted, HasStarted, HasOpened, HasAdded, HasRenewed};
 
 use std::alloc::Global;
+use std::marker::Model;
 use std::mem;
 use sto_core::{Cells, CommitLists};
 use sto_part::{List, Naming, NoMemory, PartIndex};
@@ -18,12 +19,9 @@ pub struct ReadPart {
     pub ticket: u64,
 }
 
-/// What a transaction has read, for who looks at it again.
-///
-/// It takes memory as it is noted, where nothing may fail. So after want of memory, and after the events of a commit, nothing is known
-/// until the next start.
+/// What is noted of the reads of a transaction.
 #[derive(Drop)]
-pub struct ReadNotes {
+pub struct ReadBook {
     /// Whether every read was noted.
     pub complete: bool,
     /// The number of the clock as of which the transaction reads.
@@ -38,12 +36,12 @@ pub struct ReadNotes {
     places: PartIndex,
 }
 
-impl ReadNotes {
-    /// Nothing is known. It takes no memory.
-    pub fn new(alloc: Global) -> ReadNotes
+impl ReadBook {
+    // Nothing is known. It takes no memory.
+    fn new(alloc: Global) -> ReadBook
         ensures { result.complete ≡ false }
     {
-        ReadNotes {
+        ReadBook {
             complete: false,
             at: 0,
             opened: 0,
@@ -53,8 +51,8 @@ impl ReadNotes {
         }
     }
 
-    /// Nothing is known from here on. The room of the lists stays.
-    pub(crate) fn forget(&mut self)
+    // Nothing is known from here on. The room of the lists stays.
+    fn forget(&mut self)
         ensures { self.new.complete ≡ false }
     {
         self.complete = false;
@@ -132,6 +130,132 @@ fn place(places: &mut PartIndex, reads: &List<ReadPart>) -> Result<(), NoMemory>
     Ok(())
 }
 
+/// What a transaction has read, for who looks at it again.
+///
+/// It takes memory as it is noted, where nothing may fail. So after want of memory, and after the events of a commit, nothing is known
+/// until the next start. It lies in a box, since it goes from hand to hand at each call.
+#[derive(Drop)]
+pub struct ReadNotes {
+    // None where memory was wanting for it.
+    book: Option<Box<ReadBook>>,
+}
+
+impl Model for ReadNotes {
+    ghost use Rattle.std.specs.Prelude.{option_map, unwrap_or};
+    ghost use Rattle.sto_interactive.specs.declared.noting.ReadBook.{ReadBook};
+    ghost use Rattle.sto_interactive.specs.Books.{blank};
+
+    ghost Value = { ReadBook };
+
+    ghost view = { λ n. unwrap_or (option_map (λ b. b.value) n.book) blank };
+}
+
+impl ReadNotes {
+    /// Nothing is known, and there is no room to note anything.
+    pub fn none() -> ReadNotes
+        ensures { result.complete ≡ false }
+    {
+        ReadNotes { book: None }
+    }
+
+    // Nothing is known; there is room where memory is not wanting.
+    pub(crate) fn emptied(self, alloc: Global) -> ReadNotes
+        ensures { result.complete ≡ false }
+    {
+        let ReadNotes { book } = self;
+        match book {
+            Some(book) => {
+                let mut book = book;
+                book.forget();
+                ReadNotes { book: Some(book) }
+            }
+            None => match Box::new(alloc, ReadBook::new(alloc)) {
+                Ok(book) => ReadNotes { book: Some(book) },
+                Err(_) => ReadNotes { book: None },
+            },
+        }
+    }
+
+    /// Whether every read was noted.
+    pub fn is_complete(&self) -> bool
+        ensures { result ≡ self.now.complete }
+    {
+        match &self.book {
+            Some(book) => book.complete,
+            None => false,
+        }
+    }
+
+    /// What was read as of the number of the clock as of which the transaction reads.
+    pub fn reads(&self) -> &[ReadPart]
+        ensures { result.now ≡ self.now.reads.items }
+    {
+        match &self.book {
+            Some(book) => book.reads.as_slice(),
+            None => &[],
+        }
+    }
+
+    // The ticket that the last read found at its beginning.
+    fn opened(&self) -> u64
+        ensures { result ≡ self.now.opened }
+    {
+        match &self.book {
+            Some(book) => book.opened,
+            None => 0,
+        }
+    }
+
+    fn forget(&mut self)
+        ensures { self.new.complete ≡ false }
+    {
+        if let Some(book) = &mut self.book {
+            book.forget();
+        }
+    }
+
+    fn start(&mut self, at: u64)
+        ensures { HasStarted at self.new }
+    {
+        if let Some(book) = &mut self.book {
+            book.start(at);
+        }
+    }
+
+    fn open(&mut self, ticket: u64)
+        ensures { HasOpened ticket self.old self.new }
+    {
+        if let Some(book) = &mut self.book {
+            book.open(ticket);
+        }
+    }
+
+    fn add(&mut self, part: u32, ticket: u64)
+        ensures { HasAdded part ticket self.old self.new }
+    {
+        if let Some(book) = &mut self.book {
+            book.add(part, ticket);
+        }
+    }
+
+    fn renew(&mut self, at: u64)
+        ensures { HasRenewed at self.old self.new }
+    {
+        if let Some(book) = &mut self.book {
+            book.renew(at);
+        }
+    }
+
+    fn was_read(&self, part: u32, ticket: u64) -> bool
+        ensures { IsTrue result → Contains self.now.older.items (record { part = part; ticket = ticket }) }
+    {
+        match &self.book {
+            Some(book) => book.was_read(part, ticket),
+            None => false,
+        }
+    }
+}
+
 /// A pass, and what was read on it since its last start.
 #[derive(Drop)]
 pub(crate) struct NotingReads<C> {
@@ -170,7 +294,7 @@ impl<T: Naming, C: Cells<T>> Cells<T> for NotingReads<C> {
 
     fn close(&mut self, part: u32) -> Version {
         let version = self.cells.close(part);
-        let opened = self.notes.opened;
+        let opened = self.notes.opened();
         if !version.is_locked() && version.ticket() == opened {
             self.notes.add(part, opened);
         }

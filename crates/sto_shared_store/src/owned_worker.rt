@@ -14,9 +14,7 @@ use crate::worker::CountedRest;
 use std::alloc::Global;
 use std::mem;
 use std::sync::Arc;
-use sto_interactive::{
-    AskError, BeginError, CommitError, Look, LookError, Session, SessionRoom,
-};
+use sto_interactive::{AskError, BeginError, CommitError, Look, LookError, Session, SessionRoom};
 use sto_model::{Call, Replies};
 use sto_type::TxType;
 

@@ -8,8 +8,8 @@ use Rattle.sto_interactive.specs.Pausing.{IsPaused}
 use Rattle.sto_interactive.proofs.Passing.{Pass, same_words, all_left, reads_yet, may_rest, as_many, looked, unlooked}
 use Rattle.sto_interactive.proofs.looking.look_again.Goals as goal
 
-pub returns-then-not-live-clause-asking : goal.returns-then-not-live-clause-asking
-returns-then-not-live-clause-asking g c ty calls rs begun w =
+pub returns-then-not-is_complete-clause-asking : goal.returns-then-not-is_complete-clause-asking
+returns-then-not-is_complete-clause-asking g c ty calls rs begun w =
     unlooked (of_type g.T.Naming g.T.TxType) ty c.args.shared.now calls rs c.args.live begun c.waiting.result c.args.rest c.args.left w c.waiting.ensures.live c.waiting.ensures.rest c.waiting.ensures.left
 
 pub look_at-found-requires-clause-reading : goal.look_at-found-requires-clause-reading

@@ -13,7 +13,7 @@ loop-read-init g c =
     let t = of_type g.T.Naming g.T.TxType in
     let k = g.C.Cells.passes c.args.cells.now in
     let x = g.C.Cells.view c.args.cells.now in (
-      subst (λ (l : List ReadPart). HasGone t k c.args.notes.now x l x) (sym c.as_slice-read-items.ensures.items) (at_first t k c.args.notes.now x c.requires.all c.requires.reading),
+      subst (λ (l : List ReadPart). HasGone t k c.args.notes.now x l x) (sym c.reads-read-items.ensures) (at_first t k c.args.notes.now x c.requires.all c.requires.reading),
       g.met.C.Cells.same_as_itself c.args.cells.now,
     )
 
@@ -23,7 +23,7 @@ recheck-found-requires g c =
     let k = g.C.Cells.passes c.args.cells.now in
     let x = g.C.Cells.view c.args.cells.now in
     let u = g.C.Cells.view c.loop-read.cells in
-    let reads = c.as_slice-read-items.result.now in
+    let reads = c.reads-read-items.result.now in
     let i = c.loop-read.read-index in
     let r = slice_index_or reads i (record { part = 0; ticket = 0 }) in
     let left = drop (i + 1) reads in
@@ -36,7 +36,7 @@ returns-then-is_locked-clause-looked g c =
     let k = g.C.Cells.passes c.args.cells.now in
     let x = g.C.Cells.view c.args.cells.now in
     let u = g.C.Cells.view c.loop-read.cells in
-    let reads = c.as_slice-read-items.result.now in
+    let reads = c.reads-read-items.result.now in
     let i = c.loop-read.read-index in
     let r = slice_index_or reads i (record { part = 0; ticket = 0 }) in
     let left = drop (i + 1) reads in
@@ -52,7 +52,7 @@ returns-then-is_locked-clause-all g c =
     let k = g.C.Cells.passes c.args.cells.now in
     let x = g.C.Cells.view c.args.cells.now in
     let u = g.C.Cells.view c.loop-read.cells in
-    let reads = c.as_slice-read-items.result.now in
+    let reads = c.reads-read-items.result.now in
     let i = c.loop-read.read-index in
     let r = slice_index_or reads i (record { part = 0; ticket = 0 }) in
     let left = drop (i + 1) reads in
@@ -68,7 +68,7 @@ returns-then-is_locked-clause-waits g c =
     let k = g.C.Cells.passes c.args.cells.now in
     let x = g.C.Cells.view c.args.cells.now in
     let u = g.C.Cells.view c.loop-read.cells in
-    let reads = c.as_slice-read-items.result.now in
+    let reads = c.reads-read-items.result.now in
     let i = c.loop-read.read-index in
     let r = slice_index_or reads i (record { part = 0; ticket = 0 }) in
     let left = drop (i + 1) reads in
@@ -88,7 +88,7 @@ returns-then-ticket-read-clause-looked g c =
     let k = g.C.Cells.passes c.args.cells.now in
     let x = g.C.Cells.view c.args.cells.now in
     let u = g.C.Cells.view c.loop-read.cells in
-    let reads = c.as_slice-read-items.result.now in
+    let reads = c.reads-read-items.result.now in
     let i = c.loop-read.read-index in
     let r = slice_index_or reads i (record { part = 0; ticket = 0 }) in
     let left = drop (i + 1) reads in
@@ -104,7 +104,7 @@ returns-then-ticket-read-clause-all g c =
     let k = g.C.Cells.passes c.args.cells.now in
     let x = g.C.Cells.view c.args.cells.now in
     let u = g.C.Cells.view c.loop-read.cells in
-    let reads = c.as_slice-read-items.result.now in
+    let reads = c.reads-read-items.result.now in
     let i = c.loop-read.read-index in
     let r = slice_index_or reads i (record { part = 0; ticket = 0 }) in
     let left = drop (i + 1) reads in
@@ -120,7 +120,7 @@ returns-then-ticket-read-clause-waits g c =
     let k = g.C.Cells.passes c.args.cells.now in
     let x = g.C.Cells.view c.args.cells.now in
     let u = g.C.Cells.view c.loop-read.cells in
-    let reads = c.as_slice-read-items.result.now in
+    let reads = c.reads-read-items.result.now in
     let i = c.loop-read.read-index in
     let r = slice_index_or reads i (record { part = 0; ticket = 0 }) in
     let left = drop (i + 1) reads in
@@ -140,7 +140,7 @@ loop-read-preserved g c =
     let k = g.C.Cells.passes c.args.cells.now in
     let x = g.C.Cells.view c.args.cells.now in
     let u = g.C.Cells.view c.loop-read.cells in
-    let reads = c.as_slice-read-items.result.now in
+    let reads = c.reads-read-items.result.now in
     let i = c.loop-read.read-index in
     let r = slice_index_or reads i (record { part = 0; ticket = 0 }) in
     let left = drop (i + 1) reads in
@@ -156,4 +156,4 @@ returns-clause-looked g c =
     let k = g.C.Cells.passes c.args.cells.now in
     let x = g.C.Cells.view c.args.cells.now in
     let u = g.C.Cells.view c.loop-read.cells in
-    at_last t k c.args.notes.now x u (past_last t k c.args.notes.now x c.as_slice-read-items.result.now c.loop-read.read-index u c.loop-read-test.false c.loop-read.invariant.0)
+    at_last t k c.args.notes.now x u (past_last t k c.args.notes.now x c.reads-read-items.result.now c.loop-read.read-index u c.loop-read-test.false c.loop-read.invariant.0)
