@@ -61,7 +61,8 @@ const char *sto_sources(void);
 /* What a function answers. */
 typedef enum sto_status {
     STO_OK = 0,
-    /* Memory was wanting. A transaction that was under way has ended, and nothing of it took effect. A handle that was to be
+    /* Memory was wanting. A transaction that was under way has ended, and nothing of it took effect (after sto_changed it
+     * goes on). A handle that was to be
      * filled holds nothing. A store that was to be closed may be lost (sto_close). */
     STO_NO_MEMORY = 1,
     /* The handle holds nothing. */
@@ -249,6 +250,15 @@ uint32_t sto_pairs(sto_handle *worker, sto_pair *pairs, size_t room, size_t *cou
  * they count for nothing. (No operation finds the keys of a hash table: a program that is to walk them keeps them in a tree besides, or
  * reads the rows of the closed store.) */
 uint32_t sto_walk(sto_handle *worker, uint32_t object, int64_t from, sto_pair *pairs, size_t room, size_t *count);
+
+/* Looks again at what the transaction has read, one part after the other, and writes 0 where each part is as it was read. Else it tells the
+ * first that is not: 1 where some transaction has changed it, 2 where one that is about to commit has locked it, which changes it or not.
+ * So a program that has read what will not do can wait: it looks until 1 is written, with a pause each time, gives the transaction up and
+ * begins again. Whatever is written, the transaction goes on; but where something has changed, a later call or its commit may be aborted
+ * (STO_ABORTED). A part that was looked at may change while the others are, and the values of a part that has changed may be the same
+ * again. STO_NO_MEMORY tells that memory was wanting to note what the transaction read: it goes on then, too, and no look at it tells
+ * anything. It takes time by the parts that the transaction has read, locks nothing and waits for nobody. */
+uint32_t sto_changed(sto_handle *worker, uint32_t *changed);
 
 /* Commits the transaction, and writes its place in the order: its ticket, or the number as of which it read where it wrote
  * nothing. Whatever becomes of it, the worker is in no transaction then. It takes time by what the transaction has observed and written. */

@@ -43,6 +43,54 @@ static void see_walk(sto_handle *worker)
     need(sto_remove(worker, 3, last.key, &reply), "sto_remove");
 }
 
+static void expect_change(sto_handle *worker, uint32_t want, const char *what)
+{
+    uint32_t changed = 9;
+    need(sto_changed(worker, &changed), what);
+    if (changed != want) {
+        wrong++;
+        printf("%s: changed %u, not %u\n", what, changed, want);
+    }
+}
+
+/* A transaction is told that what it has read has changed, and of nothing else. It goes on until it is given up. */
+static void see_changes(void)
+{
+    sto_shape boxes[] = {{.kind = STO_BOX}, {.kind = STO_BOX}, {.kind = STO_BOX}};
+    sto_handle store = STO_NONE, one = STO_NONE, other = STO_NONE;
+    sto_call set = {.object = 2, .operation = STO_SET, .numbers = 1, .a = 1};
+    sto_reply reply;
+    uint64_t place;
+    need(sto_open(&store, boxes, 3, 2), "sto_open");
+    need(sto_worker(&store, &one), "sto_worker");
+    need(sto_worker(&store, &other), "sto_worker");
+    need(sto_begin(&one), "sto_begin");
+    expect_change(&one, 0, "nothing was read");
+    need(sto_get(&one, 0, &reply), "sto_get");
+    need(sto_run(&other, &set, 1, &reply, 1, &place), "sto_run");
+    expect_change(&one, 0, "another box was changed");
+    /* the box is newer than what was read, which is read again */
+    need(sto_get(&one, 2, &reply), "sto_get of a box that was changed");
+    if (reply.value != 1) wrong++;
+    expect_change(&one, 0, "two boxes were read");
+    expect_change(&one, 0, "a second look");
+    set.object = 0;
+    need(sto_run(&other, &set, 1, &reply, 1, &place), "sto_run");
+    expect_change(&one, 1, "the box was changed");
+    need(sto_get(&one, 0, &reply), "sto_get of what was read");
+    if (reply.value != 0) wrong++;
+    expect_change(&one, 1, "the box is still changed");
+    need(sto_cancel(&one), "sto_cancel");
+    need(sto_begin(&one), "sto_begin");
+    need(sto_get(&one, 0, &reply), "sto_get");
+    if (reply.value != 1) wrong++;
+    expect_change(&one, 0, "the box was read again");
+    need(sto_commit(&one, &place), "sto_commit");
+    need(sto_give_back(&one), "sto_give_back");
+    need(sto_give_back(&other), "sto_give_back");
+    need(sto_free(&store), "sto_free");
+}
+
 /* The same of shapes: each is looked at whole, and then the number of workers. */
 static void see_order_of_shapes(void)
 {
@@ -62,10 +110,12 @@ int main(void)
     sto_row rows[8];
     uint64_t number = 0;
     size_t count = 0;
+    uint32_t changed = 9;
 
     /* handles that hold nothing */
     expect(sto_begin(&worker), STO_EMPTY, "begin of no worker");
     expect(sto_get(&worker, 0, &reply), STO_EMPTY, "get of no worker");
+    expect(sto_changed(&worker, &changed), STO_EMPTY, "changed of no worker");
     expect(sto_commit(&worker, &number), STO_EMPTY, "commit of no worker");
     expect(sto_worker(&store, &worker), STO_EMPTY, "worker of no store");
     expect(sto_free(&store), STO_EMPTY, "free of nothing");
@@ -86,10 +136,12 @@ int main(void)
     expect(sto_open(&store, shapes, 5, 65537), STO_BAD_WORKERS, "too many workers");
 
     see_order_of_shapes();
+    see_changes();
 
     need(sto_open(&store, shapes, 5, 1), "sto_open");
     expect(sto_open(&store, bad, 1, 0), STO_TAKEN, "open into a store");
     expect(sto_begin(&store), STO_OTHER_HANDLE, "begin of a store");
+    expect(sto_changed(&store, &changed), STO_OTHER_HANDLE, "changed of a store");
     need(sto_worker(&store, &worker), "sto_worker");
     expect(sto_worker(&store, &worker), STO_TAKEN, "worker into a worker");
     expect(sto_worker(&other, &worker), STO_TAKEN, "worker of nothing into a worker");
@@ -111,6 +163,8 @@ int main(void)
     expect(sto_pairs(&worker, pairs, 4, &count), STO_NO_TRANSACTION, "pairs outside");
     expect(sto_walk(&worker, 3, 0, pairs, 4, &count), STO_NO_TRANSACTION, "walk outside");
     expect(sto_walk(&worker, 3, 0, pairs, 0, &count), STO_NO_TRANSACTION, "walk outside, without room");
+    expect(sto_changed(&worker, &changed), STO_NO_TRANSACTION, "changed outside");
+    if (changed != 9) wrong++;
 
     /* within one: the transaction goes on */
     need(sto_begin(&worker), "sto_begin");

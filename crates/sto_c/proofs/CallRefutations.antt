@@ -1,4 +1,4 @@
--- What the clauses of calls, of shapes and of walks refuse.
+-- What the clauses of calls, of shapes, of walks and of looks refuse.
 use Rattle.std.proofs.Common.{◌≡◌, ◌≢◌, ◌<◌, ◌≤◌, ◌⊎◌, ℕ, ℤ, nat_lt, Bool, false, List, [], ◌∷◌, length, map, Option, Some, None, Ok, Err, refl, sym, ap, ◌∙◌, subst, arith, inl, inr}
 use Rattle.std.proofs.lemmas.Bool.Decides.{nat_tests}
 use Rattle.sto_model.specs.Calls.{call_of}
@@ -7,7 +7,18 @@ use Rattle.sto_model.specs.declared.operation.Operation.{Operation}
 use Rattle.sto_model.specs.declared.operation.Operation.TheVariants.{Get, Next}
 use Rattle.sto_model.specs.declared.shape.Shape.{Shape}
 use Rattle.sto_model.specs.declared.shape.Shape.TheVariants.{Single, Array}
-use Rattle.sto_shared_store.specs.Owned.{replies_of}
+use Rattle.std.specs.Prelude.{option_map, option_and_then}
+use Rattle.std.specs.Arc.{arc_value}
+use Rattle.sto_store.specs.declared.objects.Objects.{Objects}
+use Rattle.sto_store.specs.contracts.objects.ObjectsNaming.TheImpl.{ghosts as naming_ghosts}
+use Rattle.sto_interactive.specs.declared.looking.Look.{Look}
+use Rattle.sto_interactive.specs.declared.looking.Look.TheVariants as look
+use Rattle.sto_interactive.specs.declared.pause.RestingTransaction.{RestingTransaction}
+use Rattle.sto_interactive.specs.declared.session.Session.{Session}
+use Rattle.sto_interactive.specs.Looking.{HasLookedIn}
+use Rattle.sto_interactive.specs.Sessions.{live_of}
+use Rattle.sto_shared_store.specs.declared.store.Store as store
+use Rattle.sto_shared_store.specs.Owned.{Leads, replies_of}
 use Rattle.sto_c.specs.declared.content.HandleContent.TheVariants.{Nothing, Store}
 use Rattle.sto_c.specs.declared.content.StoreHandle.{StoreHandle}
 use Rattle.sto_c.specs.declared.content.WorkerHandle.{WorkerHandle}
@@ -18,7 +29,8 @@ use Rattle.sto_c.specs.declared.crossing.ShapeIn.{ShapeIn}
 use Rattle.sto_c.specs.declared.status.Status.TheVariants as status
 use Rattle.sto_c.specs.Calls.{wanted, wanted_by}
 use Rattle.sto_c.specs.Crossing.{call_in, shape_in}
-use Rattle.sto_c.specs.Steps.{HasAsked, HasAnswered, IsNoWorker}
+use Rattle.sto_c.specs.Steps.{HasAsked, HasAnswered, HasToldChange, change_of, IsNoWorker}
+use Rattle.sto_c.specs.Content.{objects}
 use Rattle.sto_c.specs.Stores.{AreScalars, HasShapes, IsUnopened}
 use Rattle.sto_c.specs.Walks.{call_at, value_in, HaveFound, HasNone, HasWalked}
 
@@ -119,3 +131,26 @@ no_pair_of_a_store h pair pairs untouched = let same = untouched tt in cc
 
 pub no_pair_of_nothing : (pair : PairOut) (pairs : List PairOut) → (IsNoWorker Nothing → pair ∷ pairs ≡ []) → ⊥
 no_pair_of_nothing pair pairs untouched = let same = untouched tt in cc
+
+no_live : (o : Option RestingTransaction) → option_map (λ p. p.attempt.table.replies) o ≡ None → o ≡ None
+no_live None e = refl
+no_live (Some p) e = cc
+
+-- nothing is looked at outside of a transaction
+no_look : (s : store.Store Objects) (found : Look) (a b : Option (Session Objects naming_ghosts)) → option_and_then (λ x. option_map (λ p. p.attempt.table.replies) (live_of x)) a ≡ None
+    → Leads (λ x y. HasLookedIn objects s.ty s.shared x (Ok found) y) a b → ⊥
+no_look s found None b outside l = absurd l
+no_look s found (Some x) None outside l = absurd l
+no_look s found (Some x) (Some y) outside l = let e = (l.free (no_live (live_of x) outside)).0 in cc
+
+module _ (changed : ℕ) (h k : WorkerHandle) (told : HasToldChange changed h (Ok tt) k) where
+  -- a look is not told outside of a transaction
+  pub no_look_outside : replies_of h.worker ≡ None → ⊥
+  no_look_outside outside = no_look (arc_value h.worker.store) told.0 h.worker.session k.worker.session outside told.2.1
+
+  -- and what is locked is not told as changed, nor what has changed as locked
+  pub no_change_of_a_lock : (part : ℕ) → told.0 ≡ look.Locked part → changed ≡ 1 → ⊥
+  no_change_of_a_lock part same one = let e = sym one ∙ told.1 ∙ ap change_of same in omega (arith, e)
+
+  pub no_lock_of_a_change : (part : ℕ) → told.0 ≡ look.Changed part → changed ≡ 2 → ⊥
+  no_lock_of_a_change part same two = let e = sym two ∙ told.1 ∙ ap change_of same in omega (arith, e)

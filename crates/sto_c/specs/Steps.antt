@@ -9,6 +9,11 @@ use Rattle.sto_interactive.specs.declared.asking.AskError.{AskError}
 use Rattle.sto_interactive.specs.declared.asking.AskError.TheVariants as ask_error
 use Rattle.sto_interactive.specs.declared.ending.CommitError.{CommitError}
 use Rattle.sto_interactive.specs.declared.ending.CommitError.TheVariants as commit_error
+use Rattle.sto_interactive.specs.declared.looking.Look.{Look}
+use Rattle.sto_interactive.specs.declared.looking.Look.TheVariants as look
+use Rattle.sto_interactive.specs.declared.looking.LookError.{LookError}
+use Rattle.sto_interactive.specs.declared.looking.LookError.TheVariants as look_error
+use Rattle.sto_interactive.specs.Looking.{HasLookedIn}
 use Rattle.sto_interactive.specs.Steps as session
 use Rattle.sto_shared_store.specs.Owned.{Leads, replies_of}
 use Rattle.sto_c.specs.declared.crossing.CallIn.{CallIn}
@@ -49,6 +54,9 @@ module _ (h k : WorkerHandle) where
   abbrev pub Cancels : Result ℕ CommitError → Type 0
   Cancels r = IsOfSameStore × Leads (λ x y. session.HasEndedBy objects (arc_value h.worker.store).ty (arc_value h.worker.store).shared x r y
       (session.HasCancelledAfter objects (arc_value h.worker.store).ty (arc_value h.worker.store).shared)) h.worker.session k.worker.session
+
+  abbrev pub LooksAgain : Result Look LookError → Type 0
+  LooksAgain r = IsOfSameStore × Leads (λ x y. HasLookedIn objects (arc_value h.worker.store).ty (arc_value h.worker.store).shared x r y) h.worker.session k.worker.session
 
 -- a transaction was begun, or why it was not
 abbrev pub HasBegun : WorkerHandle → Result (Unit {0}) Status → WorkerHandle → Type 0
@@ -96,6 +104,19 @@ HasCancelled h (Err status.NoTransaction) k = Cancels h k (Err commit_error.NoTr
 HasCancelled h (Err status.Aborted) k = Cancels h k (Err commit_error.Aborted)
 HasCancelled h (Err status.NoMemory) k = Cancels h k (Err commit_error.NoMemory)
 HasCancelled h (Err _) k = ⊥
+
+-- how C is told what was found
+abbrev pub change_of : Look → ℕ
+change_of look.Unchanged = 0
+change_of (look.Changed part) = 1
+change_of (look.Locked part) = 2
+
+-- the parts that the transaction has read were looked at again, and C was told so, or why they were not
+abbrev pub HasToldChange : ℕ → WorkerHandle → Result (Unit {0}) Status → WorkerHandle → Type 0
+HasToldChange changed h (Ok done) k = (found : Look) × (changed ≡ change_of found) × LooksAgain h k (Ok found)
+HasToldChange changed h (Err status.NoTransaction) k = LooksAgain h k (Err look_error.NoTransaction)
+HasToldChange changed h (Err status.NoMemory) k = LooksAgain h k (Err look_error.NoMemory)
+HasToldChange changed h (Err _) k = ⊥
 
 -- nothing changed, and so many more transactions may be begun
 abbrev pub HasToldLeft : ℕ → WorkerHandle → Result (Unit {0}) Status → WorkerHandle → Type 0

@@ -4,7 +4,7 @@ ghost use Rattle.sto_c.specs.declared.content.HandleContent.TheVariants.{Worker}
 ghost use Rattle.sto_c.specs.Content.{IsHeld, IsWorker};
 ghost use Rattle.sto_c.specs.Crossing.{reply_out, last_of};
 ghost use Rattle.sto_c.specs.Stores.{HasGivenBack};
-ghost use Rattle.sto_c.specs.Steps.{IsOfSameStore, HasBegun, HasAnswered, HasAsked, HasCommitted, HasCancelled, last_reply_of};
+ghost use Rattle.sto_c.specs.Steps.{IsOfSameStore, HasBegun, HasAnswered, HasAsked, HasCommitted, HasCancelled, HasToldChange, change_of, last_reply_of};
 ghost use Rattle.sto_c.specs.Whole.{HaveAsked, HasNotAnswered, HasTriedWhole, HasRunWhole};
 
 use crate::checking::call_of;
@@ -13,7 +13,7 @@ use crate::crossing::{CallIn, ReplyOut};
 use crate::status::Status;
 use crossbeam_utils::Backoff;
 use std::alloc::Global;
-use sto_interactive::{BeginError, CommitError};
+use sto_interactive::{BeginError, CommitError, Look, LookError};
 use sto_model::{Replies, Reply};
 use sto_shared_store::GiveBackError;
 
@@ -93,6 +93,35 @@ pub(crate) fn ask(
             Ok(())
         }
         Err(status) => Err(status),
+    }
+}
+
+// How C is told what was found.
+fn change_of(look: Look) -> u32
+    ensures { result ≡ change_of look }
+{
+    match look {
+        Look::Unchanged => 0,
+        Look::Changed { .. } => 1,
+        Look::Locked { .. } => 2,
+    }
+}
+
+/// Looks again at the parts that the transaction has read which it is in, and tells how they were found.
+pub(crate) fn changed(held: &mut WorkerHandle, changed: &mut u32) -> Result<(), Status>
+    requires { IsWorker held.old }
+    ensures worker { IsWorker held.new }
+    ensures store { IsOfSameStore held.old held.new }
+    ensures told { HasToldChange changed.new held.old result held.new }
+    ensures kept { OnErr result (changed.new ≡ changed.old) }
+{
+    match held.worker.has_changed() {
+        Ok(look) => {
+            *changed = change_of(look);
+            Ok(())
+        }
+        Err(LookError::NoTransaction) => Err(Status::NoTransaction),
+        Err(LookError::NoMemory) => Err(Status::NoMemory),
     }
 }
 

@@ -21,6 +21,7 @@ ghost use Rattle.sto_c.specs.Steps.{
   HasAsked,
   HasCommitted,
   HasCancelled,
+  HasToldChange,
   HasToldPairs,
   HasToldLeft,
   HasToldRows,
@@ -236,6 +237,20 @@ pub(crate) fn walk(
     };
     let mut value = value;
     let done = holding::walk(alloc, &mut *value, object, from, pairs, count);
+    worker.put(value);
+    done
+}
+
+/// Looks again at the parts that the transaction has read.
+pub(crate) fn changed(alloc: Global, worker: &mut Handle, changed: &mut u32) -> Result<(), Status>
+    ensures told { OfWorker (HasToldChange changed.new) (held worker.old) result (held worker.new) }
+    ensures kept { OnErr result (changed.new ≡ changed.old) }
+{
+    let Some(value) = worker.take(alloc) else {
+        return Err(Status::Empty);
+    };
+    let mut value = value;
+    let done = holding::changed(&mut *value, changed);
     worker.put(value);
     done
 }

@@ -10,6 +10,7 @@ ghost use Rattle.sto_c.specs.Steps.{
   HasAsked,
   HasCommitted,
   HasCancelled,
+  HasToldChange,
   HasToldPairs,
   HasToldLeft,
   HasToldRows,
@@ -156,6 +157,20 @@ pub(crate) fn walk(
         HandleContent::Nothing => Err(Status::Empty),
         HandleContent::Store(_) | HandleContent::Closed(_) => Err(Status::OtherHandle),
         HandleContent::Worker(worker) => walking::walk(alloc, worker, object, from, pairs, count),
+    }
+}
+
+/// Looks again at the parts that the transaction of a worker has read.
+pub(crate) fn changed(held: &mut HandleContent, changed: &mut u32) -> Result<(), Status>
+    requires { IsFull held.old }
+    ensures full { IsFull held.new }
+    ensures told { OfWorker (HasToldChange changed.new) held.old result held.new }
+    ensures kept { OnErr result (changed.new ≡ changed.old) }
+{
+    match held {
+        HandleContent::Nothing => Err(Status::Empty),
+        HandleContent::Store(_) | HandleContent::Closed(_) => Err(Status::OtherHandle),
+        HandleContent::Worker(worker) => calls::changed(worker, changed),
     }
 }
 

@@ -24,6 +24,7 @@ ghost use Rattle.sto_c.specs.Steps.{
   HasAsked,
   HasCommitted,
   HasCancelled,
+  HasToldChange,
   HasToldPairs,
   HasToldLeft,
   HasToldRows,
@@ -162,6 +163,15 @@ pub extern "C" fn sto_walk(
     ensures untouched { IsNoWorker (held worker.old) → pairs.new ≡ pairs.old }
 {
     number_of(handles::walk(alloc, worker, object, from, pairs, count))
+}
+
+/// Looks again at the parts that the transaction has read.
+#[unsafe(no_mangle)]
+pub extern "C" fn sto_changed(alloc: Global, worker: &mut Handle, changed: &mut u32) -> u32
+    ensures { Answers result (λ done. OfWorker (HasToldChange changed.new) (held worker.old) done (held worker.new)
+        × OnErr done (changed.new ≡ changed.old)) }
+{
+    number_of(handles::changed(alloc, worker, changed))
 }
 
 /// Commits the transaction.

@@ -15,6 +15,10 @@ use Rattle.sto_interactive.specs.declared.asking.AskError.{AskError}
 use Rattle.sto_interactive.specs.declared.asking.AskError.TheVariants as ask_error
 use Rattle.sto_interactive.specs.declared.ending.CommitError.{CommitError}
 use Rattle.sto_interactive.specs.declared.ending.CommitError.TheVariants as commit_error
+use Rattle.sto_interactive.specs.declared.looking.Look.{Look}
+use Rattle.sto_interactive.specs.declared.looking.LookError.{LookError}
+use Rattle.sto_interactive.specs.declared.looking.LookError.TheVariants as look_error
+use Rattle.sto_interactive.specs.Looking.{HasLookedAfter, HasLookedIn}
 use Rattle.sto_interactive.specs.Sessions.{live_of, Stands, IsSessionOf, IsFree, IsAsking}
 use Rattle.sto_interactive.specs.Steps.{IsUnchanged, HasBegun, HasAsked, HasAskedAfter, HasEndedBy, HasCommittedAfter, HasCancelledAfter}
 
@@ -77,3 +81,15 @@ module _ {T : Type 0} {n : naming.Ghosts T} (t : OfType T) (ty : T) (s : Shared 
 
   pub cancelled_stands : (x y : Session T n) (r : Result ℕ CommitError) → IsSessionOf t ty s x → HasEndedBy t ty s x r y (HasCancelledAfter t ty s) → IsSessionOf t ty s y
   cancelled_stands x y r h a = cancelled_by x y r (live_of x) refl h h a
+
+  pub after_looked : (calls : List Call) (rs : List PlainReply) (begun : View) (x : Session T n) (r : Result Look LookError) (y : Session T n) → IsSessionOf t ty s x → HasLookedAfter t ty s calls rs begun x r y → IsSessionOf t ty s y
+  after_looked calls rs begun x (Ok look) y stands h = asking_stands calls rs y begun h.0
+  after_looked calls rs begun x (Err look_error.NoTransaction) y stands h = absurd h
+  after_looked calls rs begun x (Err look_error.NoMemory) y stands h = unchanged_stands x y h stands
+
+  pub looked_by : (x y : Session T n) (r : Result Look LookError) (o : Option RestingTransaction) → live_of x ≡ o → Stands t ty s o x.rest.seat x.left → IsSessionOf t ty s x → HasLookedIn t ty s x r y → IsSessionOf t ty s y
+  looked_by x y r None e h stands a = unchanged_stands x y (a.free e).1 stands
+  looked_by x y r (Some p) e h stands a = after_looked h.0 h.1 h.2 x r y stands (a.asking h.0 h.1 h.2 (record { paused = p; live = e; waits = h.3 }))
+
+  pub looked_stands : (x y : Session T n) (r : Result Look LookError) → IsSessionOf t ty s x → HasLookedIn t ty s x r y → IsSessionOf t ty s y
+  looked_stands x y r h a = looked_by x y r (live_of x) refl h h a

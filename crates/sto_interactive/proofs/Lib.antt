@@ -1,3 +1,6 @@
+pub mod Noted
+pub mod Looked
+pub mod Unfound
 pub mod Passing
 pub mod Keeping
 pub mod LastReply

@@ -1,5 +1,5 @@
 -- A session's pass, before a call and after it.
-use Rattle.std.proofs.Common.{◌≡◌, ◌<◌, ◌≤◌, ◌+◌, ℕ, true, List, [], ◌∷◌, ◌++◌, Option, Some, None, Err, refl, sym, ap, ◌∙◌, subst, arith}
+use Rattle.std.proofs.Common.{◌≡◌, ◌<◌, ◌≤◌, ◌+◌, ℕ, true, List, [], ◌∷◌, ◌++◌, Option, Some, None, Ok, Err, refl, sym, ap, ◌∙◌, subst, arith}
 use Rattle.atomic_table.specs.declared.shared.Seat.{Seat}
 use Rattle.sto_part.specs.declared.naming.Naming as naming
 use Rattle.sto_model.specs.declared.call.Call.{Call}
@@ -22,17 +22,27 @@ use Rattle.sto_history.specs.Records.{is_abort}
 use Rattle.sto_attempt_log.specs.Answers.{IsPrefix}
 use Rattle.sto_core.specs.Allowed.{IsIdle}
 use Rattle.sto_core.specs.declared.view.Phase.{Phase}
+use Rattle.sto_core.specs.declared.view.Phase.TheVariants as P
+use denote.Bor.{Bor}
+use Rattle.std.specs.Prelude.{Result, IfOk, OnErr}
+use Rattle.sto_table.specs.declared.shared.Rest.{Rest}
 use Rattle.sto_interactive.specs.Scripts.{script_of}
 use Rattle.sto_interactive.specs.Bodies.{next_of, script_in, left_of, MayAskOf}
 use Rattle.sto_transaction.specs.Resting.{IsAtRest}
 use Rattle.sto_interactive.specs.declared.asked_calls.AskedCalls.{AskedCalls}
 use Rattle.sto_interactive.specs.declared.live.Live.{Live}
+use Rattle.sto_interactive.specs.declared.noting.ReadBook.{ReadBook}
 use Rattle.sto_interactive.specs.declared.live.StepError.{StepError}
 use Rattle.sto_interactive.specs.declared.pause.RestingTransaction.{RestingTransaction}
 use Rattle.sto_interactive.specs.Lives as lives
 use Rattle.sto_interactive.specs.Pausing.{IsPaused}
+use Rattle.sto_interactive.specs.Noting.{AreNoted}
 use Rattle.sto_interactive.specs.declared.session.Session.{Session}
 use Rattle.sto_interactive.specs.Sessions.{live_of, Rests, Waits, IsFree, IsAsking, view_of}
+use Rattle.sto_interactive.specs.declared.looking.Look.{Look}
+use Rattle.sto_interactive.specs.declared.looking.LookError.{LookError}
+use Rattle.sto_interactive.specs.declared.looking.LookError.TheVariants as look_error
+use Rattle.sto_interactive.specs.Looking.{HasLooked, HasLookedAfter}
 use Rattle.sto_interactive.specs.Steps.{place_of, HasCommittedAfter, HasCancelledAfter, HasFailed, IsAnswered, WasAborted, passes_of}
 
 abbrev pub Pass : Type 0
@@ -53,6 +63,13 @@ pub stopped : {T : Type 0} (t : OfType T) (k : ℕ) (ty : T) (calls : List Call)
     → lives.HasAsked t k ty calls rs call (Err e) old new begun v w → lives.HasAsked t k ty calls rs call (Err x) old new begun v w
 stopped t k ty calls rs call old new begun v w e x same h = subst (λ (y : StepError). lives.HasAsked t k ty calls rs call (Err y) old new begun v w) same h
 
+-- the notes of a transaction are those of the pass that it goes on on
+pub noted_there : (p : RestingTransaction) (notes : ReadBook) (a b : Pass) → notes ≡ p.notes → b ≡ a → AreNoted p.notes a.me.0.view → AreNoted notes b.me.0.view
+noted_there p notes a b same seat h = subst (λ (e : Pass). AreNoted notes e.me.0.view) (sym seat) (subst (λ (k : ReadBook). AreNoted k a.me.0.view) (sym same) h)
+
+pub notes_are : (p : RestingTransaction) (notes : ReadBook) (v : View) → p.notes ≡ notes → AreNoted notes v → AreNoted p.notes v
+notes_are p notes v same h = subst (λ (k : ReadBook). AreNoted k v) (sym same) h
+
 module _ {T : Type 0} (s : Shared T) where
   -- it is a pass of the same words
   pub same_words : (k m : ℕ) (a d : Pass) → IsSame k a m d → IsOf s a → IsOf s d
@@ -65,9 +82,9 @@ module _ {T : Type 0} (t : OfType T) (ty : T) (s : Shared T) where
 
   -- it waits, where it was live and was paused
   pub waits : (calls : List Call) (rs : List PlainReply) (l : Live T) (p : RestingTransaction) (begun : View) (a : Pass) (left : ℕ) → IsOf s a
-      → lives.IsLive t ty calls rs l begun a.me.0.view → IsPaused t ty calls rs p begun a.me.0.view → left < begun.draws → Waits t ty s calls rs p begun a left
-  waits calls rs l p begun a left of live paused less =
-      record { of = of; paused = paused; enough = subst (λ (k : ℕ). left < k) (sym (undrawn calls rs l begun a.me.0.view live)) less }
+      → lives.IsLive t ty calls rs l begun a.me.0.view → IsPaused t ty calls rs p begun a.me.0.view → AreNoted p.notes a.me.0.view → left < begun.draws → Waits t ty s calls rs p begun a left
+  waits calls rs l p begun a left of live paused noted less =
+      record { of = of; paused = paused; noted = noted; enough = subst (λ (k : ℕ). left < k) (sym (undrawn calls rs l begun a.me.0.view live)) less }
 
   -- more tickets than are left were there at its begin
   pub enough : (calls : List Call) (rs : List PlainReply) (l : Live T) (begun v : View) (left : ℕ) → lives.IsLive t ty calls rs l begun v → left < v.draws → left < begun.draws
@@ -104,32 +121,32 @@ module _ {T : Type 0} (t : OfType T) (ty : T) where
 module _ {T : Type 0} {n : naming.Ghosts T} (t : OfType T) (ty : T) (s : Shared T) where
   -- where a pass waits within a transaction, so does a session on it
   pub asking_on : (calls : List Call) (rs : List PlainReply) (begun : View) (y : Session T n) (p : RestingTransaction) (l : Live T) (d : Pass) (left : ℕ) → live_of y ≡ Some p → y.rest.seat ≡ d → y.left ≡ left → IsOf s d → left < begun.draws
-      → lives.IsLive t ty calls rs l begun d.me.0.view → IsPaused t ty calls rs p begun d.me.0.view → IsAsking t ty s calls rs y begun
-  asking_on calls rs begun y p l d left live same so_many of less lives_on paused = record {
+      → lives.IsLive t ty calls rs l begun d.me.0.view → IsPaused t ty calls rs p begun d.me.0.view → AreNoted p.notes d.me.0.view → IsAsking t ty s calls rs y begun
+  asking_on calls rs begun y p l d left live same so_many of less lives_on paused noted = record {
     paused = p;
     live = live;
     waits = subst (λ (e : Pass). Waits t ty s calls rs p begun e y.left) (sym same)
-        (subst (λ (k : ℕ). Waits t ty s calls rs p begun d k) (sym so_many) (waits t ty s calls rs l p begun d left of lives_on paused less));
+        (subst (λ (k : ℕ). Waits t ty s calls rs p begun d k) (sym so_many) (waits t ty s calls rs l p begun d left of lives_on paused noted less));
   }
 
   -- a call was answered
   pub answered : (calls : List Call) (rs : List PlainReply) (call : Call) (begun : View) (y : Session T n) (p : RestingTransaction) (l : Live T) (d : Pass) (left : ℕ) → live_of y ≡ Some p → y.rest.seat ≡ d → y.left ≡ left → IsOf s d
       → left < begun.draws → ((x : T) (cs : List Call) (ss : List PlainReply) (u v : View) → lives.IsLive t x cs ss l u v → IsPaused t x cs ss p u v)
-      → lives.IsAnswered t ty calls rs call l begun d.me.0.view → IsAnswered t ty s calls rs call y begun
-  answered calls rs call begun y p l d left live same so_many of less pauses h = record {
+      → AreNoted p.notes d.me.0.view → lives.IsAnswered t ty calls rs call l begun d.me.0.view → IsAnswered t ty s calls rs call y begun
+  answered calls rs call begun y p l d left live same so_many of less pauses noted h = record {
     reply = h.reply;
     at = l.attempt.at;
-    asking = asking_on (calls ++ call ∷ []) (rs ++ h.reply ∷ []) begun y p l d left live same so_many of less h.live (pauses ty (calls ++ call ∷ []) (rs ++ h.reply ∷ []) begun d.me.0.view h.live);
+    asking = asking_on (calls ++ call ∷ []) (rs ++ h.reply ∷ []) begun y p l d left live same so_many of less h.live (pauses ty (calls ++ call ∷ []) (rs ++ h.reply ∷ []) begun d.me.0.view h.live) noted;
     answers = subst (λ (e : Pass). IsPrefix (t.meaning ty) (script_of (calls ++ call ∷ []) E.Commit) e.me.0.view l.attempt.at (rs ++ h.reply ∷ [])) (sym same) h.answers;
   }
 
   -- a call was not taken: all is as before
   pub untaken : (calls : List Call) (rs : List PlainReply) (begun : View) (y : Session T n) (p : RestingTransaction) (old new : Live T) (b d : Pass) (left : ℕ) → live_of y ≡ Some p → y.rest.seat ≡ d → y.left ≡ left → IsOf s d
       → left < begun.draws → ((x : T) (cs : List Call) (ss : List PlainReply) (u v : View) → lives.IsLive t x cs ss new u v → IsPaused t x cs ss p u v)
-      → lives.IsLive t ty calls rs old begun b.me.0.view → new ≡ old → d.me.0.view ≡ b.me.0.view → IsAsking t ty s calls rs y begun
-  untaken calls rs begun y p old new b d left live same so_many of less pauses on kept still =
+      → AreNoted p.notes d.me.0.view → lives.IsLive t ty calls rs old begun b.me.0.view → new ≡ old → d.me.0.view ≡ b.me.0.view → IsAsking t ty s calls rs y begun
+  untaken calls rs begun y p old new b d left live same so_many of less pauses noted on kept still =
       let now = subst (λ (v : View). lives.IsLive t ty calls rs new begun v) (sym still) (subst (λ (l : Live T). lives.IsLive t ty calls rs l begun b.me.0.view) (sym kept) on) in
-      asking_on calls rs begun y p new d left live same so_many of less now (pauses ty calls rs begun d.me.0.view now)
+      asking_on calls rs begun y p new d left live same so_many of less now (pauses ty calls rs begun d.me.0.view now) noted
 
   -- it is free, on a pass that is at rest
   pub free_on : (y : Session T n) (d : Pass) → live_of y ≡ None → y.rest.seat ≡ d → IsOf s d → IsAtRest (t.meaning ty) (t.sizes ty) d.me.0.view → IsFree t ty s y
@@ -173,3 +190,37 @@ module _ {T : Type 0} {n : naming.Ghosts T} (t : OfType T) (ty : T) (s : Shared 
     told = subst (λ (i : ℕ). HasEnded t.meaning t.valid t.sizes script_in next_of left_of MayAskOf i ty (script_of calls E.Commit) e begun (view_of y)) many
         (subst (λ (x : Pass). HasEnded t.meaning t.valid t.sizes script_in next_of left_of MayAskOf k ty (script_of calls E.Commit) e begun x.me.0.view) (sym same) h);
   }
+
+-- A transaction whose parts were looked at again; on a type it waits
+module _ {T : Type 0} (t : OfType T) (ty : T) (calls : List Call) (rs : List PlainReply) (p : RestingTransaction) (begun : View) (b : Bor T) (on : b.now ≡ ty) where
+  pub reads_yet : (v : View) → IsPaused t ty calls rs p begun v → v.phase ≡ P.Reading
+  reads_yet v h = (h b on).waiting.waits.1
+
+  pub may_rest : (v : View) → IsPaused t ty calls rs p begun v → IsIdle v.phase
+  may_rest v h = subst IsIdle (sym (reads_yet v h)) tt
+
+  -- as many tickets are there as before
+  pub as_many : (v w : View) → IsPaused t ty calls rs p begun v → IsPaused t ty calls rs p begun w → w.draws ≡ v.draws
+  as_many v w h k = (k b on).waiting.in_body.undrawn.left ∙ sym (h b on).waiting.in_body.undrawn.left
+
+  pub looked : {n : naming.Ghosts T} (s : Shared T) (y : Session T n) (a d : Pass) (left : ℕ) → Waits t ty s calls rs p begun a left → IsOf s d → IsPaused t ty calls rs p begun d.me.0.view → AreNoted p.notes d.me.0.view
+      → live_of y ≡ Some p → y.rest.seat ≡ d → y.left ≡ left → IsAsking t ty s calls rs y begun
+  looked s y a d left w of paused noted live same so_many =
+      let there : Waits t ty s calls rs p begun d left = record { of = of; paused = paused; noted = noted; enough = subst (λ (k : ℕ). left < k) (sym (as_many a.me.0.view d.me.0.view w.paused paused)) w.enough } in
+      record { paused = p; live = live; waits = subst (λ (e : Pass). Waits t ty s calls rs p begun e y.left) (sym same) (subst (λ (k : ℕ). Waits t ty s calls rs p begun d k) (sym so_many) there) }
+
+module _ {T : Type 0} {n : naming.Ghosts T} (t : OfType T) (ty : T) (s : Shared T) where
+  -- nothing was looked at
+  pub unlooked : (calls : List Call) (rs : List PlainReply) (p : RestingTransaction) (begun : View) (y : Session T n) (rest : Rest T n) (left : ℕ) → Waits t ty s calls rs p begun rest.seat left
+      → live_of y ≡ Some p → y.rest ≡ rest → y.left ≡ left → IsAsking t ty s calls rs y begun
+  unlooked calls rs p begun y rest left w live same so_many = record {
+    paused = p;
+    live = live;
+    waits = subst (λ (e : Rest T n). Waits t ty s calls rs p begun e.seat y.left) (sym same) (subst (λ (k : ℕ). Waits t ty s calls rs p begun rest.seat k) (sym so_many) w);
+  }
+
+  pub after_look : (calls : List Call) (rs : List PlainReply) (begun : View) (x y : Session T n) (r : Result Look LookError) → IsAsking t ty s calls rs y begun → live_of y ≡ live_of x → y.left ≡ x.left
+      → IfOk r (λ look. HasLooked t.valid (passes_of s) (view_of x) look (view_of y)) → OnErr r ((r ≡ Err look_error.NoMemory) × (y.rest ≡ x.rest)) → HasLookedAfter t ty s calls rs begun x r y
+  after_look calls rs begun x y (Ok look) asking live left found kept = (asking, live, found)
+  after_look calls rs begun x y (Err look_error.NoTransaction) asking live left found kept = let e = kept.0 in cc
+  after_look calls rs begun x y (Err look_error.NoMemory) asking live left found kept = (kept.1, left, live)

@@ -12,6 +12,7 @@ use Rattle.sto_attempt.specs.Attempts.{heard}
 use Rattle.sto_attempt.specs.Pausing.{with_type as attempt_with_type}
 use Rattle.sto_interactive.specs.declared.asked_calls.AskedCalls.{AskedCalls}
 use Rattle.sto_interactive.specs.declared.live.Live.{Live}
+use Rattle.sto_interactive.specs.declared.noting.ReadBook.{ReadBook}
 use Rattle.sto_interactive.specs.Scripts.{script_of}
 use Rattle.sto_interactive.specs.Bodies.{asked}
 use Rattle.sto_interactive.specs.Waiting.{IsWaiting}
@@ -27,9 +28,9 @@ module _ {T : Type 0} (t : OfType T) where
       record { own = record { same_type = h.own.same_type; same_script = h.own.same_script; log = h.own.log }; waits = h.waits; in_body = h.in_body } in
       subst (λ (d : T). IsWaiting t asked ty (script_of calls E.Commit) (attempt_with_type (record { ref_ptr = new.ref_ptr; now = d }) p) begun v) same here
 
-  pub is_paused : (ty : T) (calls : List Call) (rs : List PlainReply) (l : Live T) (begun v : View) (p : Paused AskedCalls) → attempt_with_type l.attempt.log.ty p ≡ l.attempt
-      → IsLive t ty calls rs l begun v → IsPaused t ty calls rs (record { attempt = p }) begun v
-  is_paused ty calls rs l begun v p same live y is =
+  pub is_paused : (ty : T) (calls : List Call) (rs : List PlainReply) (l : Live T) (begun v : View) (p : Paused AskedCalls) (notes : ReadBook) → attempt_with_type l.attempt.log.ty p ≡ l.attempt
+      → IsLive t ty calls rs l begun v → IsPaused t ty calls rs (record { attempt = p; notes = notes }) begun v
+  is_paused ty calls rs l begun v p notes same live y is =
       let waits = subst (λ (a : Attempt T AskedCalls). IsWaiting t asked ty (script_of calls E.Commit) a begun v) (sym same) live.waiting in
       record {
         rests = live.rests;

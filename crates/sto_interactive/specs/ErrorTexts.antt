@@ -6,6 +6,8 @@ use Rattle.sto_interactive.specs.declared.asking.AskError.{AskError}
 use Rattle.sto_interactive.specs.declared.asking.AskError.TheVariants as ask_error
 use Rattle.sto_interactive.specs.declared.ending.CommitError.{CommitError}
 use Rattle.sto_interactive.specs.declared.ending.CommitError.TheVariants as commit_error
+use Rattle.sto_interactive.specs.declared.looking.LookError.{LookError}
+use Rattle.sto_interactive.specs.declared.looking.LookError.TheVariants as look_error
 
 abbrev pub begin_error_text : BeginError → List ℕ
 begin_error_text begin_error.InTransaction = codes "a transaction is open"
@@ -22,3 +24,7 @@ abbrev pub commit_error_text : CommitError → List ℕ
 commit_error_text commit_error.NoTransaction = codes "no transaction is open"
 commit_error_text commit_error.Aborted = codes "aborted by another transaction"
 commit_error_text commit_error.NoMemory = codes "out of memory"
+
+abbrev pub look_error_text : LookError → List ℕ
+look_error_text look_error.NoTransaction = codes "no transaction is open"
+look_error_text look_error.NoMemory = codes "out of memory"

@@ -3,6 +3,9 @@ pub mod Steps
 pub mod Scripts
 pub mod Bodies
 pub mod Waiting
+pub mod Books
+pub mod Noting
+pub mod Looking
 pub mod Lives
 pub mod Pausing
 pub mod ErrorTexts

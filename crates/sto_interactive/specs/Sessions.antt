@@ -12,6 +12,7 @@ use Rattle.sto_table.specs.Rests.{IsOf}
 use Rattle.sto_transaction.specs.Resting.{IsAtRest}
 use Rattle.sto_interactive.specs.declared.pause.RestingTransaction.{RestingTransaction}
 use Rattle.sto_interactive.specs.Pausing.{IsPaused}
+use Rattle.sto_interactive.specs.Noting.{AreNoted}
 use Rattle.sto_interactive.specs.declared.session.Session.{Session}
 
 -- the transaction that it is in, if it is in one
@@ -29,11 +30,12 @@ module _ {T : Type 0} (t : OfType T) (ty : T) (s : Shared T) where
     pub of : IsOf s seat
     pub at_rest : IsAtRest (t.meaning ty) (t.sizes ty) seat.me.0.view
 
-  -- a pass of these words within a transaction, which began at the view `begun`; these calls of it were asked, and answered so. More
-  -- tickets than these are left
+  -- a pass of these words within a transaction, which began at the view `begun`; these calls of it were asked, and answered so, and what
+  -- it has read is noted. More tickets than these are left
   pub record Waits (calls : List Call) (rs : List PlainReply) (p : RestingTransaction) (begun : View) (seat : Seat (Unit {0}) Stance) (left : ℕ) : Type 0 where
     pub of : IsOf s seat
     pub paused : IsPaused t ty calls rs p begun seat.me.0.view
+    pub noted : AreNoted p.notes seat.me.0.view
     pub enough : left < seat.me.0.view.draws
 
   -- a pass within a transaction, or between two

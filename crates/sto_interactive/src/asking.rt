@@ -7,6 +7,7 @@ ghost use Rattle.sto_interactive.specs.Sessions.{live_of, IsSessionOf, Waits};
 ghost use Rattle.sto_interactive.specs.Steps.{HasAsked, HasAskedAfter};
 
 use crate::live::StepError;
+use crate::noting::NotingReads;
 use crate::pause::RestingTransaction;
 use crate::session::{Session, SessionRoom};
 use std::alloc::Global;
@@ -81,26 +82,31 @@ fn ask<T: TxType>(
         → Waits T.TxType ty.now shared.now calls rs live begun rest.seat left
         → HasAskedAfter T.TxType ty.now shared.now calls rs begun call result.1 result.0 }
 {
-    let mut pass = shared.pass(rest);
-    let mut live = live.go_on(ty);
+    let pass = shared.pass(rest);
+    let (live, notes) = live.go_on(ty);
+    let mut live = live;
     let mut room = room;
-    match live.ask(alloc, &mut pass, call) {
-        Ok(()) => (waiting(pass.rest(), left, live.pause(), room), Ok(())),
+    let mut noting = NotingReads { cells: pass, notes };
+    match live.ask(alloc, &mut noting, call) {
+        Ok(()) => (
+            waiting(noting.cells.rest(), left, live.pause(noting.notes), room),
+            Ok(()),
+        ),
         Err(StepError::Untaken) => (
-            waiting(pass.rest(), left, live.pause(), room),
+            waiting(noting.cells.rest(), left, live.pause(noting.notes), room),
             Err(AskError::Untaken),
         ),
         Err(StepError::Aborted(_)) => {
-            room.give_back(live);
+            room.give_back(live, noting.notes);
             (
-                Session::new(pass.rest(), left, room),
+                Session::new(noting.cells.rest(), left, room),
                 Err(AskError::Aborted),
             )
         }
         Err(StepError::NoMemory) => {
-            room.give_back(live);
+            room.give_back(live, noting.notes);
             (
-                Session::new(pass.rest(), left, room),
+                Session::new(noting.cells.rest(), left, room),
                 Err(AskError::NoMemory),
             )
         }

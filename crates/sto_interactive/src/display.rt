@@ -1,9 +1,10 @@
 //! How errors print themselves.
 ghost use Rattle.std.specs.Prelude.{Some};
-ghost use Rattle.sto_interactive.specs.ErrorTexts.{begin_error_text, ask_error_text, commit_error_text};
+ghost use Rattle.sto_interactive.specs.ErrorTexts.{begin_error_text, ask_error_text, commit_error_text, look_error_text};
 
 use crate::asking::AskError;
 use crate::ending::CommitError;
+use crate::looking::LookError;
 use crate::starting::BeginError;
 use std::fmt;
 
@@ -40,6 +41,17 @@ impl fmt::Display for CommitError {
             CommitError::NoTransaction => write!(f, "no transaction is open"),
             CommitError::Aborted => write!(f, "aborted by another transaction"),
             CommitError::NoMemory => write!(f, "out of memory"),
+        }
+    }
+}
+
+impl fmt::Display for LookError {
+    ghost output = { λ error. Some (look_error_text error) };
+
+    fn fmt<W: fmt::Write>(&self, f: &mut fmt::Formatter<W>) -> fmt::Result {
+        match self {
+            LookError::NoTransaction => write!(f, "no transaction is open"),
+            LookError::NoMemory => write!(f, "out of memory"),
         }
     }
 }

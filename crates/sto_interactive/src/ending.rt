@@ -98,9 +98,10 @@ fn commit<T: TxType>(
         → HasCommittedAfter T.TxType ty.now shared.now calls rs begun result.1 result.0 }
 {
     let mut pass = shared.pass(rest);
-    let live = live.go_on(ty);
+    let (live, notes) = live.go_on(ty);
     let mut room = room;
     let held = &mut *room;
+    held.memory.keep_notes(notes);
     match live.commit(alloc, &mut pass, &mut held.memory) {
         Ok(ended) => {
             let place = place_of(ended.verdict);
@@ -133,9 +134,10 @@ fn cancel<T: TxType>(
         → Waits T.TxType ty.now shared.now calls rs live begun rest.seat left
         → HasCancelledAfter T.TxType ty.now shared.now calls rs begun result.1 result.0 }
 {
-    let live = live.go_on(ty);
+    let (live, notes) = live.go_on(ty);
     let mut room = room;
     let held = &mut *room;
+    held.memory.keep_notes(notes);
     match live.cancel(alloc, &mut held.memory) {
         Ok(ended) => {
             let place = place_of(ended.verdict);

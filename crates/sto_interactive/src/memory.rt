@@ -1,7 +1,8 @@
 //! The lists that are lent to one transaction after the other whose calls come one by one.
-ghost use Rattle.std.specs.Prelude.{◌≡◌, []};
+ghost use Rattle.std.specs.Prelude.{◌≡◌, [], false};
 
 use crate::asked_calls::AskedCalls;
+use crate::noting::ReadNotes;
 use std::alloc::Global;
 use std::marker::Model;
 use std::mem;
@@ -18,6 +19,7 @@ use sto_transaction::FinishedAttempt;
 pub struct StepLists {
     pub(crate) attempts: AttemptLists,
     calls: List<Call>,
+    notes: ReadNotes,
 }
 
 impl Model for StepLists {
@@ -36,6 +38,7 @@ impl StepLists {
         StepLists {
             attempts: AttemptLists::new(alloc),
             calls: List::new(alloc),
+            notes: ReadNotes::none(),
         }
     }
 
@@ -45,6 +48,19 @@ impl StepLists {
     {
         let empty = List::new(self.calls.allocator());
         mem::replace(&mut self.calls, empty)
+    }
+
+    /// Notes of which nothing is known.
+    pub(crate) fn take_notes(&mut self) -> ReadNotes
+        ensures { result.complete ≡ false }
+    {
+        let alloc = self.calls.allocator();
+        mem::replace(&mut self.notes, ReadNotes::none()).emptied(alloc)
+    }
+
+    /// Keeps the room of the notes of a transaction that has ended.
+    pub(crate) fn keep_notes(&mut self, notes: ReadNotes) {
+        self.notes = notes;
     }
 
     /// Keeps the room of what a transaction has left.

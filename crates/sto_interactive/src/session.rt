@@ -3,6 +3,7 @@ ghost use Rattle.std.specs.Prelude.{◌≡◌, ◌≤◌, Some, None, IfOk};
 
 use crate::live::Live;
 use crate::memory::StepLists;
+use crate::noting::ReadNotes;
 use crate::pause::RestingTransaction;
 use std::alloc::Global;
 use std::mem;
@@ -59,10 +60,11 @@ impl SessionRoom {
     }
 
     /// Keeps the lists of a transaction that has ended by an abort or for want of memory.
-    pub(crate) fn give_back<T: TxType>(&mut self, live: Live<'_, T>)
+    pub(crate) fn give_back<T: TxType>(&mut self, live: Live<'_, T>, notes: ReadNotes)
         ensures { self.new.live ≡ self.old.live }
     {
         live.give_back(&mut self.memory);
+        self.memory.keep_notes(notes);
     }
 }
 

@@ -7,6 +7,7 @@ ghost use Rattle.sto_interactive.specs.Steps.{HasBegun, HasStarted};
 
 use crate::asking::waiting;
 use crate::live::Live;
+use crate::noting::NotingReads;
 use crate::session::{Session, SessionRoom};
 use std::alloc::Global;
 use sto_part::NoMemory;
@@ -62,14 +63,22 @@ fn start<T: TxType>(
     requires free { room.value.live ≡ None }
     ensures { HasStarted T.TxType ty.now shared.now rest.seat.me.0.view left result.1 result.0 }
 {
-    let mut pass = shared.pass(rest);
+    let pass = shared.pass(rest);
     let mut room = room;
     let held = &mut *room;
-    match Live::begin(alloc, ty, &mut pass, &mut held.memory) {
-        Ok(live) => (waiting(pass.rest(), left, live.pause(), room), Ok(())),
-        Err(NoMemory) => (
-            Session::new(pass.rest(), left, room),
-            Err(BeginError::NoMemory),
+    let notes = held.memory.take_notes();
+    let mut noting = NotingReads { cells: pass, notes };
+    match Live::begin(alloc, ty, &mut noting, &mut held.memory) {
+        Ok(live) => (
+            waiting(noting.cells.rest(), left, live.pause(noting.notes), room),
+            Ok(()),
         ),
+        Err(NoMemory) => {
+            held.memory.keep_notes(noting.notes);
+            (
+                Session::new(noting.cells.rest(), left, room),
+                Err(BeginError::NoMemory),
+            )
+        }
     }
 }

@@ -18,6 +18,10 @@ use Rattle.sto_interactive.specs.declared.asking.AskError.{AskError}
 use Rattle.sto_interactive.specs.declared.asking.AskError.TheVariants as ask_error
 use Rattle.sto_interactive.specs.declared.ending.CommitError.{CommitError}
 use Rattle.sto_interactive.specs.declared.ending.CommitError.TheVariants as commit_error
+use Rattle.sto_interactive.specs.declared.looking.Look.{Look}
+use Rattle.sto_interactive.specs.declared.looking.LookError.{LookError}
+use Rattle.sto_interactive.specs.declared.looking.LookError.TheVariants as look_error
+use Rattle.sto_interactive.specs.Looking.{HasLookedAfter, HasLookedIn}
 use Rattle.sto_interactive.specs.Sessions.{live_of, Stands, IsSessionOf, IsFree, IsAsking, view_of}
 use Rattle.sto_interactive.specs.Steps.{IsUnchanged, HasFailed, HasBegun, HasAsked, HasAskedAfter, HasEndedBy, HasCommittedAfter, HasCancelledAfter}
 use Rattle.sto_shared_store.specs.declared.store.Store.{Store}
@@ -110,6 +114,20 @@ module _ {T : Type 0} {n : naming.Ghosts T} (t : OfType T) (s : Store T) (v : Vi
 
   pub cancelled_since : (x y : Session T n) (r : Result ℕ CommitError) → IsAt t s v (Some x) → HasEndedBy t s.ty s.shared x r y (HasCancelledAfter t s.ty s.shared) → IsAt t s v (Some y)
   cancelled_since x y r h a = cancelled_by x y r (live_of x) refl h h a
+
+  after_looked : (calls : List Call) (rs : List PlainReply) (begun : View) (x : Session T n) (r : Result Look LookError) (y : Session T n) → Grows v begun → IsAt t s v (Some x)
+      → HasLookedAfter t s.ty s.shared calls rs begun x r y → IsAt t s v (Some y)
+  after_looked calls rs begun x (Ok look) y grows is h = asking_since calls rs y begun h.0 grows
+  after_looked calls rs begun x (Err look_error.NoTransaction) y grows is h = absurd h
+  after_looked calls rs begun x (Err look_error.NoMemory) y grows is h = unchanged_since x y h is
+
+  looked_by : (x y : Session T n) (r : Result Look LookError) (o : Option RestingTransaction) → live_of x ≡ o → StandsSince t s v o x.rest.seat x.left → IsAt t s v (Some x)
+      → HasLookedIn t s.ty s.shared x r y → IsAt t s v (Some y)
+  looked_by x y r None e h is a = unchanged_since x y (a.free e).1 is
+  looked_by x y r (Some p) e h is a = after_looked h.0 h.1 h.2 x r y h.4 is (a.asking h.0 h.1 h.2 (record { paused = p; live = e; waits = h.3 }))
+
+  pub looked_since : (x y : Session T n) (r : Result Look LookError) → IsAt t s v (Some x) → HasLookedIn t s.ty s.shared x r y → IsAt t s v (Some y)
+  looked_since x y r h a = looked_by x y r (live_of x) refl h h a
 
   -- where it is in no transaction it comes back
   pub comes_back : (hired : Hired T n) (x : Session T n) (w : CountedRest T n) → arc_value hired.store ≡ s → hired.worker.rest.seat.me.0.view ≡ v → w.rest ≡ x.rest → live_of x ≡ None → IsAt t s v (Some x)

@@ -3,6 +3,7 @@ ghost use Rattle.std.specs.Prelude.{◌≡◌, None, IfSome, IfOk, IfErr, is_som
 ghost use Rattle.std.specs.Arc.{arc_value};
 ghost use Rattle.sto_interactive.specs.Sessions.{live_of};
 ghost use Rattle.sto_shared_store.specs.Working.{IsWorker};
+ghost use Rattle.sto_interactive.specs.Looking.{HasLookedIn};
 ghost use Rattle.sto_interactive.specs.Steps.{HasBegun, HasAsked, HasEndedBy, HasCommittedAfter, HasCancelledAfter};
 ghost use Rattle.sto_shared_store.specs.Owned.{Leads, IsOwnedWorker, replies_of};
 ghost use Rattle.sto_shared_store.specs.Endings.{IsOfWorker, IsFreeWorker, StaysOut, worker_of};
@@ -13,7 +14,7 @@ use crate::worker::CountedRest;
 use std::alloc::Global;
 use std::mem;
 use std::sync::Arc;
-use sto_interactive::{AskError, BeginError, CommitError, Session, SessionRoom};
+use sto_interactive::{AskError, BeginError, CommitError, Look, LookError, Session, SessionRoom};
 use sto_model::{Call, Replies};
 use sto_type::TxType;
 
@@ -140,6 +141,22 @@ impl<T: TxType + Drop> OwnedWorker<T> {
             unreachable!()
         };
         let (session, result) = session.cancel(alloc, &self.store.ty, &self.store.shared);
+        self.session = Some(session);
+        result
+    }
+
+    /// Looks again at the parts that the transaction has read, as `Session::has_changed` does.
+    pub fn has_changed(&mut self) -> Result<Look, LookError>
+        requires { IsOwnedWorker T.TxType self.old }
+        ensures worker { IsOwnedWorker T.TxType self.new }
+        ensures store { (self.new.store ≡ self.old.store) × (self.new.slot ≡ self.old.slot) }
+        ensures looked { Leads (λ x y. HasLookedIn T.TxType (arc_value self.old.store).ty (arc_value self.old.store).shared x result y)
+            self.old.session self.new.session }
+    {
+        let Some(session) = mem::replace(&mut self.session, None) else {
+            unreachable!()
+        };
+        let (session, result) = session.has_changed(&self.store.shared);
         self.session = Some(session);
         result
     }

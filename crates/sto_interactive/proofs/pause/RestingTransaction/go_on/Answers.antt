@@ -8,6 +8,7 @@ use Rattle.sto_interactive.proofs.pause.RestingTransaction.go_on.Goals as goal
 
 pub returns : goal.returns
 returns g c = record {
+  notes = refl;
   live = λ calls rs begun v paused.
       subst (λ (a : Attempt g.row.T.Denot AskedCalls). IsLive (of_type g.T.Naming g.T.TxType) c.args.ty.now calls rs (record { ty = c.args.ty; attempt = a }) begun v) (sym c.go_on.ensures) (paused c.args.ty refl);
 }
