@@ -1,5 +1,5 @@
 -- Aborted attempts saw more and took no effect; the last one tells what the transaction led to.
-use Rattle.std.proofs.Common.{◌≡◌, ℕ, Result, ◌-◌, refl, sym, ◌∙◌, subst, arith}
+use Rattle.std.proofs.Common.{◌≡◌, ℕ, Result, ◌-◌, refl, ◌∙◌, subst, arith}
 use Rattle.std.specs.Prelude.{Ok, IfOk, Option, MatchOption}
 use Rattle.sto_part.specs.declared.NoMemory.{NoMemory}
 use Rattle.sto_once.specs.declared.code.Halt.{Halt}
