@@ -1,5 +1,5 @@
 -- What the verdict of an attempt names, and why it is an abort.
-use Rattle.std.proofs.Common.{◌≡◌, ◌<◌, ℕ, List, length, true, refl, arith}
+use Rattle.std.proofs.Common.{◌≡◌, ◌<◌, ℕ, List, length, true, false, refl, arith}
 use Rattle.sto_model.specs.PlainReplies.{PlainReply}
 use Rattle.sto_model.specs.Run.{Behaviour}
 use Rattle.sto_type.specs.Meaning.{Meaning, IsLawful}
