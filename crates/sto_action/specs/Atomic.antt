@@ -48,7 +48,7 @@ abbrev pub TakesNoEffect : View → View → Type 0
 TakesNoEffect v w = (t : ℕ) → times_committed t w.entries ≡ times_committed t v.entries
 
 -- so many attempts were made from v to w, one after the other, and each was aborted: it has its finding under the number of its start, of
--- a part that was locked, or that had been changed by another one. None took effect
+-- a part that was locked, or that was free or its own, with the ticket that it had. None took effect
 pub record HaveAborted (v w : View) (many : ℕ) : Type 0 where
   pub none : TakesNoEffect v w
   pub verdicts : List Verdict

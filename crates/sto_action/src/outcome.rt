@@ -20,11 +20,11 @@ pub enum Done<A, E> {
     Cancelled(E),
 }
 
-/// Why a transaction was not run to its end. Nothing of it took effect, and the worker can go on with others.
+/// Why a transaction was not run to its end. Nothing of it took effect, and but for `Worn` the worker can go on with
+/// others.
 #[derive(Clone, Copy)]
 pub enum TransactionError {
-    /// So many tries were made, all that it had, and each was aborted, since others locked or changed what it looked at; the last one by
-    /// this cause.
+    /// So many tries were made, all that it had, and each was aborted; the last one by this cause.
     Busy { tries: u32, last: AbortCause },
     /// Its code asked this call, which its object does not take; or more calls than it may.
     Refused(Call),
